@@ -5,7 +5,7 @@ import threading
 import time
 
 from . import store, wire
-from .harness import Held, Server, Wrong, holds, same, until, within
+from .harness import Held, Server, holds, same, until, within
 
 
 def together(count, work):
@@ -47,7 +47,7 @@ def in_parallel(place):
 
     def work(client):
         with server.attached(client) as conn:
-            number, settled = 1, 1
+            number = 1
             while len(values[client]) < calls:
                 batch = b"".join(wire.call(number + k, adding(1, 0, 1)) for k in range(window))
                 conn.send(batch + wire.settle(number + window))
@@ -432,23 +432,14 @@ def bad_frames(place):
     for session, (name, frame) in enumerate(BAD_FRAMES):
         with server.connect() as conn:
             conn.send(wire.attach(session) + wire.call(1, ("find", b"a")) + frame + wire.call(2, ("find", b"a")))
-            got = []
-            try:
-                while True:
-                    got.append(conn.reply())
-            except wire.Ended as why:
-                holds("timed out" not in str(why) and "within" not in str(why), f"a frame {name}: {why}")
-            wanted = [("welcome", session, 1), ("answer", 1, ("no-array",))]
+            got, wanted = conn.rest(), [("welcome", session, 1), ("answer", 1, ("no-array",))]
             holds(got == wanted[: len(got)], f"a frame {name}: {got}")
     for name, frame in BAD_FRAMES:
         with server.connect() as conn:
             conn.ask(wire.report())
             time.sleep(0.05)  # so that its writing thread sleeps, and has to be woken
             conn.send(frame)
-            try:
-                raise Wrong(f"a frame {name} after a report: {conn.reply()}")
-            except wire.Ended as why:
-                holds("timed out" not in str(why) and "within" not in str(why), f"a frame {name} after a report: {why}")
+            same(conn.rest(), [], f"a frame {name} after a report")
     # (a welcome is sent once everything before it is stored)
     server.attached(1000).close()
     until(lambda: threads_of(server) <= 2, 20, "the threads of connections that ended are gone")

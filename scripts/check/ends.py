@@ -1,5 +1,6 @@
 """How connections and servers begin and end: half-closed clients, admissions given back, sockets, device faults."""
 
+import collections
 import errno
 import fcntl
 import os
@@ -19,42 +20,12 @@ from .records import calls_of
 READFE = 16
 
 
-def number(value):
-    return struct.pack(">Q", value)
-
-
-def welcome(session):
-    return b"\0\0\0\x11\x41" + number(session) + number(1)
-
-
-def value(call, found):
-    return b"\0\0\0\x16\x42" + number(call) + b"\x01" + number(found) + bytes(4)
-
-
-def settled(floor):
-    return b"\0\0\0\x09\x44" + number(floor)
-
-
-def goodbye(session):
-    return b"\0\0\0\x09\x45" + number(session)
-
-
-def rest_of(conn):
-    """All bytes up to the end of the stream."""
-    while True:
-        try:
-            conn.more()
-        except wire.Ended as why:
-            holds("timed out" not in str(why), str(why))
-            return conn.got
-
-
 def descriptors_of(server):
     return len(os.listdir(f"/proc/{server.process.pid}/fd"))
 
 
 def half_closed_replies(place):
-    """clients that send and at once shut their sending side get each reply, byte for byte, and then the end of the stream"""
+    """clients that send and at once shut their sending side get each reply, and then the end of the stream"""
     turns = place.options.turns or 100
     server = Server(place).start()
     made(server, (b"counter", 1, 1), (b"empty", 1, 0))
@@ -66,8 +37,8 @@ def half_closed_replies(place):
         with server.connect() as conn:
             conn.send(says + wire.settle(2) + (b"" if turn % 2 else wire.bye()))
             conn.finish()
-            wanted = welcome(session) + value(1, turn) + settled(2) + (b"" if turn % 2 else goodbye(session))
-            same(rest_of(conn), wanted, f"turn {turn}")
+            wanted = [("welcome", session, 1), ("answer", 1, ("value", turn)), ("settled", 2), ("goodbye", session)]
+            same(conn.rest(), wanted[: 4 - turn % 2], f"turn {turn}")
         if turn % 2:
             with server.attached(session) as conn:
                 same(conn.ask(wire.report())[1].splitlines()[0], "waiting 0")
@@ -88,14 +59,7 @@ def half_closed_long(place):
             conn.send(wire.report() * calls)
             conn.finish()
             time.sleep(0.05)
-            replies = []
-            try:
-                while True:
-                    replies.append(conn.reply())
-            except wire.Ended as why:
-                same(str(why), "the stream ended")
-            same(sum(reply[0] == "answer" for reply in replies), 32)
-            same(sum(reply[0] == "report" for reply in replies), calls)
+            same(collections.Counter(reply[0] for reply in conn.rest()), {"answer": 32, "report": calls})
 
 
 def half_closed_in_a_sync(place):
@@ -163,13 +127,13 @@ def waiters(server):
 
 
 def last_turn(place):
-    """a connection that has used up its `turns` gets the replies to its last read, byte for byte"""
+    """a connection that has used up its `turns` gets the replies to its last read"""
     turns = place.options.turns or 20
     server = Server(place, turns=1).start()
     for turn in range(turns):
         with server.connect() as conn:
             conn.send(wire.attach(turn % 60) + wire.settle(1) + wire.bye())
-            same(rest_of(conn), welcome(turn % 60) + settled(1) + goodbye(turn % 60), f"turn {turn}")
+            same(conn.rest(), [("welcome", turn % 60, 1), ("settled", 1), ("goodbye", turn % 60)], f"turn {turn}")
     return f"{turns} connections"
 
 

@@ -46,6 +46,12 @@ def environment(place, server):
     }
 
 
+def begun(place, *path):
+    """A server, the environment of its examples, and the path of one."""
+    server = Server(place).start()
+    return server, environment(place, server), os.path.join(EXAMPLES, *path)
+
+
 class Crew:
     """Processes that are started again until each has ended with status 0. What each life of them printed is kept."""
 
@@ -126,9 +132,7 @@ def chain(number):
 def work_queue(place):
     """python/work_queue.py: each job is put once, and its result is right, over kills of the producer, three workers and the server"""
     jobs = 120
-    server = Server(place).start()
-    env = environment(place, server)
-    program = os.path.join(EXAMPLES, "python", "work_queue.py")
+    server, env, program = begun(place, "python", "work_queue.py")
     words = lambda what, who: [sys.executable, program, what, server.socket, place.path(f"session{who}"), str(jobs)]
     crew = Crew(place, env, [words("produce", 0), *(words("work", who) for who in range(1, 4))])
     # (the producer still puts: no more than 100 jobs wait)
@@ -150,9 +154,7 @@ def work_queue(place):
 def pipeline(place):
     """python/pipeline.py: each item is in each queue once, and its result is right, over kills of six processes and the server"""
     items, stages = 80, ("parse", "square", "store")
-    server = Server(place).start()
-    env = environment(place, server)
-    program = os.path.join(EXAMPLES, "python", "pipeline.py")
+    server, env, program = begun(place, "python", "pipeline.py")
     roles = ["feed", *stages, *stages]
     words = [[sys.executable, program, role, server.socket, place.path(f"session{who}"), str(items)] for who, role in enumerate(roles)]
     crew = Crew(place, env, words)
@@ -219,9 +221,8 @@ def leader(place):
     """python/leader.py: the ledger has each entry once, and refuses whoever led before: three processes and the server are killed, and
     leaders are stopped until another one leads"""
     entries = 400
-    server = Server(place).start()
-    env = environment(place, server)
-    words = [sys.executable, os.path.join(EXAMPLES, "python", "leader.py"), server.socket]
+    server, env, program = begun(place, "python", "leader.py")
+    words = [sys.executable, program, server.socket]
     place.write("ledger", b"")  # (who leads says so before it makes the file)
     crew = Crew(place, env, [[*words, place.path(f"session{who}"), place.path("ledger"), str(entries)] for who in range(3)])
     for is_late in (False, True, False, True):
@@ -236,9 +237,7 @@ def leader(place):
 def written_once(place):
     """python/written_once.py: each result is written once and everyone sees that one, over kills of five processes and the server"""
     items = 150
-    server = Server(place).start()
-    env = environment(place, server)
-    program = os.path.join(EXAMPLES, "python", "written_once.py")
+    server, env, program = begun(place, "python", "written_once.py")
     words = lambda what, who: [sys.executable, program, what, server.socket, place.path(f"session{who}"), str(items)]
     crew = Crew(place, env, [*(words("compute", who) for who in range(3)), *(words("read", who) for who in range(3, 5))])
     said = storm(crew, server, 30, 0.08)
@@ -258,10 +257,9 @@ def written_once(place):
 def orders(place):
     """python/orders.py: no line of an order is lost or there twice, over kills of four processes and the server"""
     names, steps = "abcd", 200
-    server = Server(place).start()
-    env = environment(place, server)
+    server, env, program = begun(place, "python", "orders.py")
     os.mkdir(place.path("orders"))
-    words = [sys.executable, os.path.join(EXAMPLES, "python", "orders.py"), server.socket]
+    words = [sys.executable, program, server.socket]
     crew = Crew(place, env, [[*words, place.path(f"session{name}"), place.path("orders"), name, str(steps)] for name in names])
     said = storm(crew, server, 30, 0.08)
     for order in range(7):
@@ -284,11 +282,11 @@ def alignment(first, second):
     return best
 
 
-def in_c(place, name):
+def in_c(place, source):
     """The program of an example in C, with the installed library."""
-    root, program = installed(place), place.path(name)
+    root, program = installed(place), place.path("program")
     words = [compiler(), "-std=c11", "-Wall", "-Wextra", "-Werror", f"-I{root}/usr/include", "-o", program]
-    words += [os.path.join(EXAMPLES, "c", f"{name}.c"), f"-L{root}{builds.LIBRARIES}", "-lfemem"]
+    words += [source, f"-L{root}{builds.LIBRARIES}", "-lfemem"]
     built = subprocess.run(words, capture_output=True, text=True, check=False)
     same((built.returncode, built.stderr), (0, ""))
     return program
@@ -297,8 +295,8 @@ def in_c(place, name):
 @within(200)
 def loop(place):
     """c/loop.c: two of them add each number of their pipes once, while the server is killed; numbers that come meanwhile wait"""
-    server = Server(place).start()
-    env, program = environment(place, server), in_c(place, "loop")
+    server, env, source = begun(place, "c", "loop.c")
+    program = in_c(place, source)
     given = [[random.randrange(1, 1 << 32) for _ in range(600)] for _ in range(2)]
     start = lambda who: place.start([program, server.socket, str(7 + who)], f"loop{who}", env, stdin=subprocess.PIPE)
     added = lambda who: [tuple(map(int, line.split())) for line in place.read(f"loop{who}.out").decode().split("\n")[:-1]]
@@ -331,9 +329,8 @@ def loop(place):
 @within(300)
 def wavefront(place):
     """c/wavefront.c: three of them find the score that the whole matrix gives, over kills of each and of the server"""
-    server = Server(place).start()
-    env = environment(place, server)
-    program = in_c(place, "wavefront")
+    server, env, source = begun(place, "c", "wavefront.c")
+    program = in_c(place, source)
     first, second = ("".join(random.choice("ACGT") for _ in range(224)) for _ in range(2))
     second = second[:60] + first[40:150] + second[170:]
     crew = Crew(place, env, [[program, server.socket, place.path(f"session{who}"), first, second] for who in range(3)])
@@ -347,9 +344,7 @@ def wavefront(place):
 @within(200)
 def counter(place):
     """shell/counter.sh: three of them count each of their steps once, over kills of each and of the server"""
-    server = Server(place).start()
-    env = environment(place, server)
-    script = os.path.join(EXAMPLES, "shell", "counter.sh")
+    server, env, script = begun(place, "shell", "counter.sh")
     crew = Crew(place, env, [[script, place.path(f"session{who}"), "60"] for who in range(3)])
     said = storm(crew, server, 20, 0.05)
     last = [list(map(int, place.read(f"crew{who}_{crew.lives[who]}.out").split())) for who in range(3)]
@@ -370,9 +365,7 @@ def run(place, env, words, status=0):
 @within(200)
 def rate_limit(place):
     """shell/rate_limit.sh: of forty starts at once, as many run as the limit says, also while the server is killed"""
-    server = Server(place).start()
-    env = environment(place, server)
-    script = os.path.join(EXAMPLES, "shell", "rate_limit.sh")
+    server, env, script = begun(place, "shell", "rate_limit.sh")
     # (a window that does not end meanwhile)
     words = [script, "mails", "7", "100000000", "echo", "sent"]
     same(run(place, env, words), "sent\n")
@@ -396,9 +389,8 @@ JOB = 'mkdir inside || { echo two >> wrong; exit 1; }; sleep 0.3; echo "$FEMEM_G
 @within(200)
 def nightly(place):
     """shell/nightly.sh: each day's job runs once, never two at a time, though four start it and are killed; a killed job runs again"""
-    server = Server(place).start()
-    env = {**environment(place, server), "TAKEOVER_AFTER": "0.5"}
-    script = os.path.join(EXAMPLES, "shell", "nightly.sh")
+    server, env, script = begun(place, "shell", "nightly.sh")
+    env["TAKEOVER_AFTER"] = "0.5"
     words = lambda day: [script, "backup", str(day), "sh", "-c", JOB]
     for day in (1, 2):
         started = [place.start(words(day), f"start{it}", env, group=True) for it in range(4)]

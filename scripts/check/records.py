@@ -465,32 +465,30 @@ def is_in_time(calls, device, asked, kept=()):
     return True
 
 
-def appended(place):
-    """each group is four calls; a checkpoint closes the other slot, writes a slice after each group, and ends as in the table"""
-    state = state_with(20000)
-    # with two groups more the journal has 524,288 bytes, and a checkpoint is due
-    groups = [[("attached", 9, 1)] * 3276] * 2
-    base = store.device_of(TWO, state, groups, 3, 1)
-    store.put_slot(base, TWO, State(), [], 2, 0)
-    work = [adding(1, 0, 1)] * 8
+def over_a_checkpoint(place, form, count, generation, is_open, base, work):
+    """Serves a store of 20,000 words whose journal, in slot 1, has two groups of so many records: with two more a checkpoint is due, which
+    closes the other slot if its gate is open. The calls must be the table's. Returns them, and the entries."""
     calls, answers = recorded(place, base, work, format=False)
-    entries = [ATTACHED, *finished(work, answers)]
-    same(answers, [("value", number) for number in range(8)])
-    now = store.read_store(base)[2]
+    same(answers, [("value", number) for number in range(len(work))])
+    entries, now = [ATTACHED, *finished(work, answers)], store.read_store(base)[2]
     for entry in entries[:2]:
         now.apply(entry)
-    image = image_of(now, TWO)
-    old, new = Journal(TWO, 1, 2 * (5 + 3276 * 80)), Journal(TWO, 0)
-    wanted = opening(1, len(image_of(state, TWO))) + old.group(entries[0]) + old.group(entries[1])
-    wanted += beginning(0, 4, image, True)
-    pieces = slices(0, image)
-    same(len(pieces), 3)
-    for entry, piece in zip(entries[2:5], pieces):
+    image, length, used = image_of(now, TWO), len(image_of(state_with(20000), form)), 2 * (5 + count * form.record)
+    old, new, pieces = Journal(form, 1, used), Journal(TWO, 0), slices(0, image)
+    wanted = opening(1, length) + old.group(entries[0]) + old.group(entries[1]) + beginning(0, generation, image, is_open)
+    for entry, piece in zip(entries[2:5], pieces, strict=True):
         wanted += old.group(entry) + piece
-    wanted += old.group(entries[5]) + finishing(0, new, entries[2:6])
-    for entry in entries[6:]:
-        wanted += new.group(entry)
-    as_said(of_file(calls, "s.store"), compared(wanted, relied(1, len(image_of(state, TWO)), 2 * (5 + 3276 * 80))))
+    wanted += old.group(entries[5]) + finishing(0, new, entries[2:6]) + sum((new.group(it) for it in entries[6:]), [])
+    as_said(of_file(calls, "s.store"), compared(wanted, relied(1, length, used)))
+    return calls, entries
+
+
+def appended(place):
+    """each group is four calls; a checkpoint closes the other slot, writes a slice after each group, and ends as in the table"""
+    base = store.device_of(TWO, state_with(20000), [[("attached", 9, 1)] * 3276] * 2, 3, 1)
+    store.put_slot(base, TWO, State(), [], 2, 0)
+    work = [adding(1, 0, 1)] * 8
+    calls, entries = over_a_checkpoint(place, TWO, 3276, 4, True, base, work)
     asked = {(7, number): request for number, request in enumerate(work, 1)}
     same(left_in_time(calls, "s.store", base, asked), 9, "replies")
     replies = [at for at, call in enumerate(calls) if call.kind == "send"]
@@ -501,22 +499,8 @@ def appended(place):
 
 def migrated(place):
     """a store of format 1 stays in format 1 until a checkpoint, which writes format 2"""
-    state = state_with(20000)
-    # with two groups more the journal has 524,288 bytes, and a checkpoint is due
-    base = store.device_of(ONE, state, [[("attached", 9, 1)] * 4095] * 2, 2, 1)
-    work = [adding(1, 0, 1)] * 6
-    calls, answers = recorded(place, base, work, format=False)
-    entries = [ATTACHED, *finished(work, answers)]
-    now = store.read_store(base)[2]
-    for entry in entries[:2]:
-        now.apply(entry)
-    image = image_of(now, TWO)
-    old, new = Journal(ONE, 1, 2 * (5 + 4095 * 64)), Journal(TWO, 0)
-    wanted = opening(1, len(image_of(state, ONE))) + old.group(entries[0]) + old.group(entries[1]) + beginning(0, 3, image, False)
-    for entry, piece in zip(entries[2:5], slices(0, image)):
-        wanted += old.group(entry) + piece
-    wanted += old.group(entries[5]) + finishing(0, new, entries[2:6]) + new.group(entries[6])
-    as_said(of_file(calls, "s.store"), compared(wanted, relied(1, len(image_of(state, ONE)), 2 * (5 + 4095 * 64))))
+    base = store.device_of(ONE, state_with(20000), [[("attached", 9, 1)] * 4095] * 2, 2, 1)
+    over_a_checkpoint(place, ONE, 4095, 3, False, base, [adding(1, 0, 1)] * 6)
 
 
 def migrated_by_a_name(place):

@@ -234,6 +234,17 @@ class Connection:
         self.send(frame)
         return self.reply()
 
+    def rest(self):
+        """The replies up to the end of the stream, which is not within one."""
+        found = []
+        try:
+            while True:
+                found.append(self.reply())
+        except Ended as why:
+            if "timed out" in str(why) or "within" in str(why):
+                raise
+        return found
+
     def is_quiet(self, seconds=0.2):
         """Whether nothing comes for that long while the stream stays open."""
         if self.got:
