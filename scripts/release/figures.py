@@ -1,15 +1,13 @@
 """Writes bench/results/figures.md, how large the repository is and what the last run of the gate on this machine took, and the tables of
 docs/performance.md.
 
-Usage: scripts/figures [--before NAME COSTS.. --after COSTS..]
+Usage: scripts/figures
 
 The gate leaves its last line, its log and its costs in out/gate, and scripts/plant what it found in out/plant. Where they left nothing,
 as in a new clone, the page keeps what it has of them. So do the parts `coverage` and `fuzz` of scripts/check_programs, in out/figures. A text of bench/results has what a bench of that name printed last, with when
-and where, and is written anew with each figure that changes. No figure of these two is written by hand. With --before and --after it compares the costs of another text, which it calls
-NAME, with those of this one. A file of COSTS is as scripts/measure writes it, and counts for a crate where no later one has it.
+and where, and is written anew with each figure that changes. No figure of these two is written by hand.
 """
 
-import argparse
 import glob
 import os
 import re
@@ -143,42 +141,6 @@ def gate():
         yield row((f"`{crate}`", *(minutes(found.get((crate, kind), 0)) for kind in ("proofs", "tests", "edits"))))
 
 
-def sums(paths):
-    """From crate to the seconds of a processor that the last of these runs with it took."""
-    found = {}
-    for path in paths:
-        for crate, seconds in summed(costs(path)[1]).items():
-            found[crate] = seconds
-    return found
-
-
-def summed(found):
-    """The seconds of each crate, for all kinds together."""
-    return {crate: sum(seconds for (it, _), seconds in found.items() if it == crate) for crate, _ in found}
-
-
-def compared(asked):
-    """The costs of two texts."""
-    if not asked.before:
-        kept = section("Before and after")
-        yield from ("## Before and after", "", *kept, "") if kept and not os.path.exists(GATE) else ()
-        return
-    name, *paths = asked.before
-    before, after = sums(paths), sums(asked.after)
-    yield from ("## Before and after", "")
-    yield (
-        "Processor minutes of the prover for a crate's proof, its tests and its must-fail edits together, each from nothing, on one machine"
-        f" and one day: of the text {name}, and of this one."
-    )
-    yield ""
-    yield row(("crate", "before", "after"))
-    yield "|---|---|---|"
-    for crate in [*crates(), *sorted(set(before) - set(crates()))]:
-        yield row((f"`{crate}`", minutes(before.get(crate, 0)), minutes(after.get(crate, 0))))
-    yield row(("together", minutes(sum(before.values())), minutes(sum(after.values()))))
-    yield ""
-
-
 def left(heading, name, *head):
     """A table of what parts of scripts/check_programs left in out/figures, or else the page has, of the files that are there."""
     texts = ["\n".join(section(heading))]
@@ -234,14 +196,14 @@ def words():
     yield row(("together", f"{sum(found.values()):,}"))
 
 
-def page(asked):
+def page():
     """The page, from the sources and from what the last gate left."""
     parts = [
         "# Figures", "",
         "Written by `make figures`. Sizes are of this text, and counts of the last gate of the commit that it names. Times are of one machine and one hour: hosts vary by 1.7 times, so compare"
         " two texts in one hour.", "",
         "## Size", "", "Lines that are not empty.", "", *size(), "",
-        "## The last gate", "", *gate(), "", *compared(asked),
+        "## The last gate", "", *gate(), "",
         "## Wrong bodies", "",
         "What `rt plant` tried and could judge. Tried bodies in no later column give, by the contract, the"
         " same as the right one. `scripts/planted.txt` says why the explained ones do no harm.", "", *wrong_bodies(), "",
@@ -256,14 +218,8 @@ def page(asked):
 
 
 def main():
-    parser = argparse.ArgumentParser(usage="scripts/figures [--before NAME COSTS.. --after COSTS..]")
-    parser.add_argument("--before", nargs="+")
-    parser.add_argument("--after", nargs="+")
-    asked = parser.parse_args()
-    if bool(asked.before) != bool(asked.after) or asked.before and len(asked.before) < 2:
-        parser.error("--before and --after belong together")
     # (the other page counts the words of this one)
-    for path, text in ((SPEED, performance), (PAGE, lambda: page(asked))):
+    for path, text in ((SPEED, performance), (PAGE, page)):
         made = text()
         Path(path).write_text(made, "utf-8")
         print(os.path.relpath(path, TOP))
