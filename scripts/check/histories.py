@@ -15,7 +15,7 @@ from .harness import Server, holds, preload, same, within
 from .history import History
 from .kills import Client, Load, Storm, read
 from .model import EMPTY, FULL, State, table
-from .records import Call, Journal, calls_of, is_in_time, left_in_time, too_early
+from .records import Call, Frames, Journal, calls_of, is_in_time, left_in_time, too_early
 from .store import TWO, record_of
 from .wire import WITH_OPERAND
 
@@ -171,48 +171,24 @@ def small_orders(_place):
 # The calls of the server, and its store
 
 
-class Numbered:
-    """The frames of some kinds in a record: the session and number of each, at the call with its last byte. A frame of the kind
-    `begins` has the session of its connection."""
-
-    def __init__(self, call, begins, kinds):
-        self.call = call
-        self.begins = begins
-        self.kinds = kinds
-        self.rest = {}
-        self.session = {}
-
-    def of(self, call):
-        data = self.rest.get(call.file, b"") + call.data if call.kind == self.call else b""
-        while len(data) >= 4 and len(data) >= 4 + int.from_bytes(data[:4], "big"):
-            size = 4 + int.from_bytes(data[:4], "big")
-            kind, number, data = data[4], int.from_bytes(data[5:13], "big"), data[size:]
-            if kind == self.begins:
-                self.session[call.file] = number
-            elif kind in self.kinds:
-                yield self.session[call.file], number
-        if call.kind == self.call:
-            self.rest[call.file] = data
+def numbered(frames, kinds, call):
+    """The sessions and numbers of the frames of some kinds whose last byte is in a call."""
+    return [(session, int.from_bytes(frame[1:9], "big")) for session, frame in frames.of(call) if frame[0] in kinds]
 
 
-def requests():
-    return Numbered("recv", 1, (2, 3, 4, 5, 11, 12, 13))
-
-
-def answers():
-    return Numbered("send", 65, (66,))
+REQUESTS, ANSWERS = (2, 3, 4, 5, 11, 12, 13), (66,)
 
 
 def moments(records):
     """When each request was first received and first answered, from the records of the server's lives, as the number of a call."""
     received, answered, now = {}, {}, 0
     for calls in records:
-        comes, goes = requests(), answers()
+        comes, goes = Frames("recv", 1), Frames("send", 65)
         for call in calls:
             now += 1
-            for key in comes.of(call):
+            for key in numbered(comes, REQUESTS, call):
                 received.setdefault(key, now)
-            for key in goes.of(call):
+            for key in numbered(goes, ANSWERS, call):
                 answered.setdefault(key, now)
     return received, answered
 
@@ -406,10 +382,10 @@ def changed_orders(lives):
 def changed_records(lives):
     """A reply of the last life that leaves before the second sync of its group is noticed."""
     calls, life = lives.records[-1], len(lives.records) - 1
-    sent, kept, asked = answers(), lives.kept(life), lives.asked()
+    sent, kept, asked = Frames("send", 65), lives.kept(life), lives.asked()
     found = []
     for at, call in enumerate(calls):
-        for key in sent.of(call):
+        for key in numbered(sent, ANSWERS, call):
             entry = ("finished", *key, *lives.history.finished[key[0], 0, key[1]])
             if entry not in kept:
                 found.append((at, record_of(entry, TWO)))

@@ -15,6 +15,7 @@ ENTRIES_A_ROUND = 5500  # few enough that at most one checkpoint begins in a rou
 SECONDS_A_KILL = 0.4  # the target
 MIGRATIONS = 12
 COUNTERS, HANDS = 1, 2
+EMPTY, FILL = 16, 19  # operations
 SETTER = 99  # the session that makes the arrays
 
 
@@ -142,40 +143,24 @@ class Adder(Client):
 
 
 class Hand(Client):
-    """One of the two clients that fill and empty a word in turn."""
+    """One of two clients, of which one fills a word, with 1, 2, 3 and so on, as often as the other empties it."""
 
-    def __init__(self, session, index, window):
+    def __init__(self, session, index, window, op):
         super().__init__(session)
-        self.index = index
-        self.window = window
-        self.count = 0
-        self.values = []
+        self.index, self.window, self.op = index, window, op
+        self.count, self.values = 0, []
 
     def request(self):
         if self.count == self.most:
             return None
         self.count += 1
-        return self.asked()
+        return ("access", self.op, HANDS, self.index, self.count if self.op == FILL else 0, False)
+
+    def take(self, request, answer):
+        self.values += answer[1:]
 
     def is_done(self):
         return super().is_done() and self.count == self.most
-
-
-class Producer(Hand):
-    """Fills a word with 1, 2, 3 and so on, as often as it is emptied."""
-
-    def asked(self):
-        return ("access", 19, HANDS, self.index, self.count, False)
-
-
-class Consumer(Hand):
-    """Empties that word."""
-
-    def asked(self):
-        return ("access", 16, HANDS, self.index, 0, False)
-
-    def take(self, request, answer):
-        self.values.append(answer[1])
 
 
 class Restless(Client):
@@ -183,9 +168,7 @@ class Restless(Client):
 
     def __init__(self, session):
         super().__init__(session)
-        self.cycle = 0
-        self.plan = []
-        self.array = None
+        self.cycle, self.plan, self.array = 0, [], None
 
     def request(self):
         if not self.plan:
@@ -213,20 +196,13 @@ class Restless(Client):
         return not self.plan and self.cycle % 3 == 0
 
     def take(self, request, answer):
-        wanted = {
-            "create": ("array", self.array_id(answer), 1 + self.cycle % 700),
-            "remove": ("done",),
-            "find": ("array", self.array, 1 + self.cycle % 700) if self.plan else ("no-array",),
-        }.get(request[0])
-        if request[0] == "access":
-            wanted = ("done",) if request[1] == 19 else ("not-now",) if request[5] else ("value", self.cycle)
-        same(answer, wanted, f"{request}")
         if request[0] == "create":
-            self.array = answer[1]
-
-    @staticmethod
-    def array_id(answer):
-        return answer[1] if len(answer) == 3 else None
+            self.array = answer[1] if len(answer) == 3 else None
+        there = ("array", self.array, 1 + self.cycle % 700)
+        wanted = {"create": there, "remove": ("done",), "find": there if self.plan else ("no-array",)}.get(request[0])
+        if request[0] == "access":
+            wanted = ("done",) if request[1] == FILL else ("not-now",) if request[5] else ("value", self.cycle)
+        same(answer, wanted, f"{request}")
 
 
 class Storm(Client):
@@ -338,7 +314,7 @@ class Crew:
     def __init__(self, server, windows, others):
         make_arrays(server)
         self.adders = [Adder(session, session % 3) for session in range(1, 5)]
-        self.pairs = [(Producer(10 + k, k, w), Consumer(20 + k, k, w)) for k, w in enumerate(windows)]
+        self.pairs = [(Hand(10 + k, k, window, FILL), Hand(20 + k, k, window, EMPTY)) for k, window in enumerate(windows)]
         self.all = [*self.adders, *(it for pair in self.pairs for it in pair), *others]
         self.history, self.load = History(), Load(server, self.all)
 

@@ -185,23 +185,23 @@ def shown(call):
 # Replies
 
 
-class Sent:
-    """The replies in a record, each with its connection's session, at the call that sent it."""
+class Frames:
+    """The frames that calls of a kind take or send, in a record, each at the call with its last byte, with its connection's session: the
+    number in the last frame of the kind `begins`."""
 
-    def __init__(self):
-        self.rest = {}
-        self.session = {}
+    def __init__(self, call, begins):
+        self.call, self.begins = call, begins
+        self.rest, self.session = {}, {}
 
-    def replies(self, call):
-        """The replies whose last byte this call sends."""
+    def of(self, call):
+        if call.kind != self.call:
+            return
         data = self.rest.get(call.file, b"") + call.data
-        while len(data) >= 4 and len(data) >= 4 + int.from_bytes(data[:4], "big"):
-            size = 4 + int.from_bytes(data[:4], "big")
-            reply = wire.reply_of(data[4:size])
-            data = data[size:]
-            if reply[0] == "welcome":
-                self.session[call.file] = reply[1]
-            yield self.session.get(call.file), reply
+        while len(data) >= 4 and len(data) >= (size := 4 + int.from_bytes(data[:4], "big")):
+            frame, data = data[4:size], data[size:]
+            if frame[0] == self.begins:
+                self.session[call.file] = int.from_bytes(frame[1:9], "big")
+            yield self.session.get(call.file), frame
         self.rest[call.file] = data
 
 
@@ -263,14 +263,14 @@ WITHOUT_ENTRY = ("report", "withdrawn", "refused")
 def left_in_time(calls, name, device, asked, kept=()):
     """Checks that each reply about something stored is sent after its entry is synced. Returns how many there are.
     `asked` has the request of each session and number, `kept` the entries of the answers that were in the store before."""
-    durable, sent, welcomes, count = Durable(device), Sent(), {}, 0
+    durable, sent, welcomes, count = Durable(device), Frames("send", 65), {}, 0
     for call in calls:
         if call.file == name and call.kind == "pwrite":
             durable.write(int(call.numbers[0]), call.data)
         elif call.file == name and call.kind == "fdatasync" and not call.error:
             durable.sync()
-        for session, reply in sent.replies(call) if call.kind == "send" else ():
-            kind, *rest = reply
+        for session, frame in sent.of(call):
+            reply = kind, *rest = wire.reply_of(frame)
             if kind in WITHOUT_ENTRY:
                 continue
             entry, times = (kind, session, *rest), 1
