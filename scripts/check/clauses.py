@@ -4,7 +4,7 @@ import os
 import re
 
 from .sources import contracts_of, has, has_type, is_function, is_named, source_of
-from .texts import NAME, TOP, exists, rows_of, split, text_of, told
+from .texts import NAME, TOP, exists, prose, rows_of, text_of, told
 
 # A name, followed by names in parentheses: a function with its clauses.
 CITED = re.compile(r"`([\w:]+)`(?: \(((?:`\w+`(?:, |; | and )?)+)\))?")
@@ -42,11 +42,8 @@ def of_prose(crate, line):
 
 def clauses(_place):
     """each function, law and clause that docs/proved.md names is in its crate"""
-    missing = []
-    count = 0
-    crate = None
-    calls = []
-    for number, line in split(text_of("docs/proved.md"))[0]:
+    missing, count, crate, calls = [], 0, None, []
+    for _, where, line in prose(("docs/proved.md",)):
         if line.startswith("## "):
             crate = None
         if begin := re.match(r"\*\*`(\w+)`\*\*", line):
@@ -62,14 +59,13 @@ def clauses(_place):
         else:
             found, lost = of_prose(crate, line)
         count += found
-        missing += [f"docs/proved.md:{number}: {it}" for it in lost]
+        missing += [f"{where}: {it}" for it in lost]
     return told(missing, count, 250, "functions and clauses")
 
 
 def cited(_place):
     """each function with its clauses that the promise's table, the layers, the README, headline.md and CONTRIBUTING.md name is in its crate"""
-    missing = []
-    count = 0
+    missing, count = [], 0
     tables = [("docs/proved.md", "## The promise", 1), ("ARCHITECTURE.md", "## Layers", 2)]
     for page, heading, column in tables:
         for number, row in rows_of(text_of(page), heading):
@@ -84,15 +80,13 @@ def cited(_place):
                 for clause in found:
                     if not any(has(it, name, clause) or not clause and is_named(it, name) for it in crates):
                         missing.append(f"{page}:{number}: {' or '.join(crates)}: no {name} {clause}")
-    for page in ("README.md", "docs/headline.md", "CONTRIBUTING.md"):
-        for number, line in split(text_of(page))[0]:
-            for crate, path, listed in PATHED.findall(line):
-                names = NAME.findall(listed)
-                count += 1 + len(names)
-                missing += [f"{page}:{number}: {crate} has no {path} {it}" for it in names if not has(crate, path, it)]
-                # (a path may also name a type, which has no clauses)
-                if not names and not is_function(crate, path) and not has_type(crate, f"{path}::it"):
-                    missing.append(f"{page}:{number}: {crate} has no {path}")
+    for _, where, line in prose(("README.md", "docs/headline.md", "CONTRIBUTING.md")):
+        for crate, path, listed in PATHED.findall(line):
+            names = NAME.findall(listed)
+            count += 1 + len(names)
+            missing += [f"{where}: {crate} has no {path} {it}" for it in names if not has(crate, path, it)]
+            # (a path may also name a type, which has no clauses)
+            missing += [] if names or is_function(crate, path) or has_type(crate, f"{path}::it") else [f"{where}: {crate} has no {path}"]
     return told(missing, count, 50, "functions and clauses")
 
 
@@ -117,16 +111,15 @@ def declared():
 def promised(_place):
     """each clause in the headline's first table is one of its function, and each name in the tables about definitions, rules and words is declared"""
     there, missing, count = declared() | SPARED, [], 0
-    for page in DECLARING:
-        for number, line in split(text_of(page))[0]:
-            cells = line.strip("|").split("|") if line.startswith("|") else []
-            for name in [it for cell in cells for word in NAME.findall(cell) for it in re.findall(r"[A-Za-z]\w+", word)]:
-                if re.fullmatch(rf".*`{name}`.*|.*`{name}: .*|.*::{name}`.*", line):
-                    count += 1
-                    missing += [] if name in there or exists("crates", name) else [f"{page}:{number}: no {name}"]
-            for function, listed in CITED.findall(line) if len(cells) == 3 and page == "docs/headline.md" else ():
-                known = [it for it in PROMISING if is_function(it, function)] if listed else []
-                lost = [it for it in NAME.findall(listed) if known and not exists("crates", it) and not any(has(crate, function, it) for crate in known)]
-                missing += [f"{page}:{number}: {function} has no clause {it}" for it in lost]
-                missing += [f"{page}:{number}: no function {function}"] if listed and "::" in function and not known else []
+    for page, where, line in prose(DECLARING):
+        cells = line.strip("|").split("|") if line.startswith("|") else []
+        for name in [it for cell in cells for word in NAME.findall(cell) for it in re.findall(r"[A-Za-z]\w+", word)]:
+            if re.fullmatch(rf".*`{name}`.*|.*`{name}: .*|.*::{name}`.*", line):
+                count += 1
+                missing += [] if name in there or exists("crates", name) else [f"{where}: no {name}"]
+        for function, listed in CITED.findall(line) if len(cells) == 3 and page == "docs/headline.md" else ():
+            known = [it for it in PROMISING if is_function(it, function)] if listed else []
+            lost = [it for it in NAME.findall(listed) if known and not exists("crates", it) and not any(has(crate, function, it) for crate in known)]
+            missing += [f"{where}: {function} has no clause {it}" for it in lost]
+            missing += [f"{where}: no function {function}"] if listed and "::" in function and not known else []
     return told(missing, count, 220, "names")

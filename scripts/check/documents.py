@@ -6,7 +6,7 @@ import os
 import re
 from pathlib import Path
 
-from .texts import NAME, PAGES, READMES, TOP, bases, exists, headings, is_path, slug, split, text_of, told
+from .texts import NAME, PAGES, READMES, TOP, bases, exists, headings, is_path, prose, slug, text_of, told
 from .wire import OPS
 
 
@@ -41,8 +41,7 @@ def touched(_place):
     """each file that names all operations, or all settings, is in CONTRIBUTING.md's list of files to change for a new one"""
     ops = [it.replace(b"_", b"") for it in OPS]
     keys = [rb"\b" + it + rb"\b" for it in (b"socket", b"store", b"connections", b"format", b"accepts", b"turns")]
-    missing = []
-    count = 0
+    missing, count = [], 0
     for words, roots, heading in (
         (ops, ("crates", "clients", "scripts", "examples", "docs", "packaging"), "## Add an operation"),
         (keys, ("crates", "scripts", "examples"), "## Add a setting"),
@@ -80,8 +79,7 @@ def versions(_place):
 
 def pictures(_place):
     """each picture has the texts of its source, `docs/NAME.dot`"""
-    missing = []
-    count = 0
+    missing, count = [], 0
     for path in glob.glob(os.path.join(TOP, "docs", "*.dot")):
         name = os.path.relpath(path, TOP)
         shown = html.unescape(text_of(f"{name[:-4]}.svg")).replace("\xa0", " ")
@@ -117,15 +115,13 @@ def has_section(page, file, title):
 
 def links(_place):
     """each link of a document leads to a file and a heading, and each section named in quotes exists"""
-    missing = []
-    count = 0
-    for page in (*PAGES, *READMES):
-        for number, line in split(text_of(page))[0]:
-            targets = [it for it in LINK.findall(line) if not re.match(r"[a-z]+:", it[1])]
-            sections = [(file, title) for file, titles in QUOTED.findall(line) for title in re.findall(r"\"([^\"]+)\"", titles)]
-            count += len(targets) + len(sections)
-            missing += [f"{page}:{number}: {it}" for text, target in targets for it in wrong_in_link(page, text, target)]
-            missing += [f'{page}:{number}: {file}, "{title}"' for file, title in sections if not has_section(page, file, title)]
+    missing, count = [], 0
+    for page, where, line in prose((*PAGES, *READMES)):
+        targets = [it for it in LINK.findall(line) if not re.match(r"[a-z]+:", it[1])]
+        sections = [(file, title) for file, titles in QUOTED.findall(line) for title in re.findall(r"\"([^\"]+)\"", titles)]
+        count += len(targets) + len(sections)
+        missing += [f"{where}: {it}" for text, target in targets for it in wrong_in_link(page, text, target)]
+        missing += [f'{where}: {file}, "{title}"' for file, title in sections if not has_section(page, file, title)]
     return told(missing, count, 100, "links")
 
 

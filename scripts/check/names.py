@@ -6,7 +6,7 @@ import re
 import subprocess
 
 from .sources import below, has_item, source_of
-from .texts import ANY, NAME, PAGES, TOP, bases, exists, is_path, split, text_of, told
+from .texts import ANY, NAME, PAGES, TOP, bases, exists, is_path, prose, text_of, told
 
 
 # What comes before the name of a definition in specs.
@@ -25,77 +25,56 @@ def is_specs(word):
 
 def paths(_place):
     """each path that a document names exists"""
-    missing = []
-    count = 0
-    for page in PAGES:
-        for number, line in split(text_of(page))[0]:
-            # (texts of links are not paths; another check follows the targets)
-            words = NAME.findall(re.sub(r"\[[^\]]*\]\([^)]*\)", "", line))
-            for at, word in enumerate(words):
-                word = ANY.sub("*", word)
-                if not is_path(word) or is_specs(word):
-                    continue
+    missing, count = [], 0
+    for page, where, line in prose(PAGES):
+        # (texts of links are not paths; another check follows the targets)
+        words = NAME.findall(re.sub(r"\[[^\]]*\]\([^)]*\)", "", line))
+        for at, word in enumerate(ANY.sub("*", it) for it in words):
+            if is_path(word) and not is_specs(word):
                 count += 1
-                if not any(exists(base, word) for base in bases(page, word, words[:at])):
-                    missing.append(f"{page}:{number}: {word}")
+                missing += [] if any(exists(base, word) for base in bases(page, word, words[:at])) else [f"{where}: {word}"]
     return told(missing, count, 150, "paths")
 
 
 def items(_place):
     """each function or definition that a document names after its file, `FILE` (`NAME`), is in that file"""
-    missing = []
-    count = 0
-    for page in PAGES:
-        for number, line in split(text_of(page))[0]:
-            for found in re.finditer(r"`([\w/.]+\.(?:rt|antt))` \(((?:`\w+`(?:, |; |\)))+)", line):
-                named = NAME.findall(line[: found.start()])
-                path = next((it for base in bases(page, found[1], named) if exists(it := os.path.join(base, found[1]))), None)
-                for name in NAME.findall(found[2]):
-                    count += 1
-                    if path is None or not has_item(path, name):
-                        missing.append(f"{page}:{number}: {found[1]} has no {name}")
+    missing, count = [], 0
+    for page, where, line in prose(PAGES):
+        for found in re.finditer(r"`([\w/.]+\.(?:rt|antt))` \(((?:`\w+`(?:, |; |\)))+)", line):
+            named = NAME.findall(line[: found.start()])
+            path = next((it for base in bases(page, found[1], named) if exists(it := os.path.join(base, found[1]))), None)
+            names = NAME.findall(found[2])
+            count += len(names)
+            missing += [f"{where}: {found[1]} has no {it}" for it in names if path is None or not has_item(path, it)]
     return told(missing, count, 40, "functions and definitions")
 
 
 def definitions(_place):
     """each definition that docs/headline.md and docs/store.md cite as `NAME` (`CRATE/FILE`) is in that file"""
-    missing = []
-    count = 0
-    for page in ("docs/headline.md", "docs/store.md"):
-        for number, line in split(text_of(page))[0]:
-            cell = line.split("|")[1] if line.startswith("|") else line
-            for names, crate, file in FILED.findall(cell):
-                path = f"crates/{crate}/specs/{file}.antt"
-                text = text_of(path) if exists(path) else ""
-                for name in NAME.findall(names):
-                    count += 1
-                    if not re.search(rf"^(?:{KINDS_OF_DEFINITION} )*{name}\b", text, re.M):
-                        missing.append(f"{page}:{number}: {path} does not define {name}")
+    missing, count = [], 0
+    for _, where, line in prose(("docs/headline.md", "docs/store.md")):
+        for names, crate, file in FILED.findall(line.split("|")[1] if line.startswith("|") else line):
+            path = f"crates/{crate}/specs/{file}.antt"
+            text, named = text_of(path) if exists(path) else "", NAME.findall(names)
+            count += len(named)
+            missing += [f"{where}: {path} does not define {it}" for it in named if not re.search(rf"^(?:{KINDS_OF_DEFINITION} )*{it}\b", text, re.M)]
     return told(missing, count, 70, "definitions")
 
 
 def model(_place):
     """each definition that docs/model.md names under a crate's heading is in that crate or in those below it"""
-    missing = []
-    count = 0
-    text = ""
-    for number, line in split(text_of("docs/model.md"))[0]:
+    missing, count, text = [], 0, ""
+    for _, where, line in prose(("docs/model.md",)):
         if line.startswith("## "):
             crates = re.findall(r"`(fe_\w+)`", line)
             crates += [it for crate in crates for it in below(crate) if it not in crates]
             text = "\n".join(source_of(it, folder) for it in crates for folder in ("specs", "src"))
-            continue
-        if line.startswith("|"):
-            continue
-        for name in re.findall(r"`([A-Z]\w+|\w+_\w+)`", re.sub(r"\(as in [^)]*\)", "", line)):
-            count += 1
-            if name.startswith("fe_"):
-                there = exists("crates", name)
-            else:
+        elif not line.startswith("|"):
+            for name in re.findall(r"`([A-Z]\w+|\w+_\w+)`", re.sub(r"\(as in [^)]*\)", "", line)):
+                count += 1
                 form = rf"^\s*(?:{DECLARED} )+{name}\b|^\s*(?:pub )?{name}\b(?: :|,|\(| \{{)"
-                there = re.search(form, text, re.M)
-            if not there:
-                missing.append(f"docs/model.md:{number}: no {name} in {crates[0] if crates else 'any crate'} and below")
+                there = exists("crates", name) if name.startswith("fe_") else re.search(form, text, re.M)
+                missing += [] if there else [f"{where}: no {name} in {crates[0] if crates else 'any crate'} and below"]
     return told(missing, count, 200, "definitions")
 
 
@@ -126,9 +105,8 @@ def vocabulary():
 def words(_place):
     """each word in backticks in any document is a word of the repository's own files, or one of the few of others"""
     missing, count = [], 0
-    for page in (it for it in listed() if it.endswith(".md")):
-        for number, line in split(text_of(page))[0]:
-            found = LETTERS.findall(" ".join(NAME.findall(line)))
-            count += len(found)
-            missing += [f"{page}:{number}: no file has {it}" for it in found if it not in vocabulary()]
+    for _, where, line in prose(it for it in listed() if it.endswith(".md")):
+        found = LETTERS.findall(" ".join(NAME.findall(line)))
+        count += len(found)
+        missing += [f"{where}: no file has {it}" for it in found if it not in vocabulary()]
     return told(missing, count, 5000, "words")

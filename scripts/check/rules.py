@@ -22,22 +22,18 @@ WHOLE = re.compile(r"\s*(#\[|\\0)")
 USED = re.compile(r"^\s*(?:pub )?use (fe_\w+)::(?:\{([^}]*)\}|(\w+));", re.M)
 
 
-def files_of(crate):
-    """The paths of a crate's sources."""
-    for folder, _, files in sorted(os.walk(os.path.join(TOP, "crates", crate, "src"))):
-        for file in sorted(files):
-            if file.endswith(".rt"):
-                yield os.path.relpath(os.path.join(folder, file), TOP)
+def sources():
+    """The sources of the product's crates: the path and the text of each."""
+    for path in sorted(it for crate in PRODUCT for it in glob.glob(os.path.join(TOP, "crates", crate, "src", "**", "*.rt"), recursive=True)):
+        yield os.path.relpath(path, TOP), text_of(os.path.relpath(path, TOP))
 
 
 def device(_place):
     """no clause hands on two members of the disk model one by one: the record `D.Disk` has them all"""
     count, wrong = 0, []
-    for crate in PRODUCT:
-        for path in files_of(crate):
-            text = text_of(path)
-            count += len(re.findall(r"\bD\.Disk\b", text))
-            wrong += [f"{path}:{text[: it.start()].count(chr(10)) + 1}: {it[0]}" for it in HANDED.finditer(text)]
+    for path, text in sources():
+        count += len(re.findall(r"\bD\.Disk\b", text))
+        wrong += [f"{path}:{text[: it.start()].count(chr(10)) + 1}: {it[0]}" for it in HANDED.finditer(text)]
     return told(wrong, count, 100, "uses of the record")
 
 
@@ -45,30 +41,26 @@ def types(_place):
     """no file of a product crate uses two types of one name that two product crates declare"""
     declared = {crate: set(TYPE.findall(source_of(crate, "src"))) for crate in PRODUCT}
     count, wrong = 0, []
-    for crate in PRODUCT:
-        for path in files_of(crate):
-            text = text_of(path)
-            here = {name: crate for name in TYPE.findall(text)}
-            for found in USED.finditer(text):
-                for item in re.split(r",\s*", (found[2] or found[3]).strip().rstrip(",")):
-                    name = item.split(" as ")[0].strip()
-                    if name not in declared.get(found[1], ()):
-                        continue
-                    count += 1
-                    if here.setdefault(name, found[1]) != found[1]:
-                        wrong.append(f"{path}: {name} of {here[name]} and of {found[1]}")
+    for path, text in sources():
+        here = {name: path.split("/")[1] for name in TYPE.findall(text)}
+        for found in USED.finditer(text):
+            for item in re.split(r",\s*", (found[2] or found[3]).strip().rstrip(",")):
+                name = item.split(" as ")[0].strip()
+                if name not in declared.get(found[1], ()):
+                    continue
+                count += 1
+                if here.setdefault(name, found[1]) != found[1]:
+                    wrong.append(f"{path}: {name} of {here[name]} and of {found[1]}")
     return told(wrong, count, 400, "types taken from other crates")
 
 
 def memory(_place):
     """no file makes an error from which an OutOfMemory can be made, but those that MAKERS names"""
     count, wrong = 0, []
-    for crate in PRODUCT:
-        for path in files_of(crate):
-            text = text_of(path)
-            count += len(re.findall(r"\bOutOfMemory\b", text))
-            if not path.startswith(MAKERS):
-                wrong += [f"{path}:{text[: it.start()].count(chr(10)) + 1}: {it[0]}" for it in MADE_FROM.finditer(text)]
+    for path, text in sources():
+        count += len(re.findall(r"\bOutOfMemory\b", text))
+        if not path.startswith(MAKERS):
+            wrong += [f"{path}:{text[: it.start()].count(chr(10)) + 1}: {it[0]}" for it in MADE_FROM.finditer(text)]
     return told(wrong, count, 200, "uses of OutOfMemory")
 
 

@@ -47,6 +47,11 @@ def split(text):
     return prose, blocks
 
 
+def prose(pages):
+    """The lines of prose of pages, each with its page and where it is."""
+    return [(page, f"{page}:{number}", line) for page in pages for number, line in split(text_of(page))[0]]
+
+
 def block(name, first):
     """The one block of a document that has this beginning."""
     found = [it for it in split(text_of(name))[1] if it.startswith(first)]
