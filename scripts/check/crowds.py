@@ -124,12 +124,7 @@ def waits_for_room(place):
     held = Held(place, "fdatasync")
     server = Server(place).start(held.env)
     conns = attaches(server)
-    held.next()
-    conns[0].send(wire.attach(0))
-    held.wait()
-    for session, conn in enumerate(conns):
-        conn.send(wire.attach(session) * EACH)
-    comes_to_rest(server)
+    fill_up(server, held, conns, EACH)
     held.let_go()
     for session, conn in enumerate(conns):
         count = EACH + (session == 0)
@@ -151,11 +146,8 @@ def all_wait_for_room(place):
     others = [server.attached(session) for session in range(32, 37)]
     for conn in others:
         same(conn.ask(wire.call(1, ("find", b"none"))), ("answer", 1, ("no-array",)))
-    held.next()
+    fill_up(server, held, conns, MOST_PENDING // len(conns))
     conns[0].send(wire.attach(0))
-    held.wait()
-    for session, conn in enumerate(conns):
-        conn.send(wire.attach(session) * (MOST_PENDING // len(conns) + (session == 0)))
     comes_to_rest(server)
     for conn in others:
         conn.send(wire.call(1, ("find", b"none")))
@@ -163,6 +155,16 @@ def all_wait_for_room(place):
     held.let_go()
     for conn in others:
         same(conn.reply(), ("answer", 1, ("no-array",)))
+
+
+def fill_up(server, held, conns, each):
+    """While a sync of the server is held, each connection sends so many attaches of its session, and nothing is done with more of them."""
+    held.next()
+    conns[0].send(wire.attach(0))
+    held.wait()
+    for session, conn in enumerate(conns):
+        conn.send(wire.attach(session) * each)
+    comes_to_rest(server)
 
 
 def attaches(server):

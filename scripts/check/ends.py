@@ -12,7 +12,7 @@ import termios
 import time
 
 from . import wire
-from .crowds import EACH, adding, attaches, comes_to_rest, made, memory_of, served, threads_of
+from .crowds import EACH, adding, attaches, comes_to_rest, fill_up, made, memory_of, served, threads_of
 from .faults import is_change
 from .harness import Held, Server, Skipped, holds, preload, same, until, within
 from .records import calls_of
@@ -485,12 +485,7 @@ def fault_while_all_wait(place):
         server.start({**env, "TURN": str(count + 4), "HOW": "fails"} if count else env)
         conns = attaches(server)
         count = sum(map(is_change, calls_of(record, is_cut=True)))
-        held.next()
-        conns[0].send(wire.attach(0))
-        held.wait()
-        for session, conn in enumerate(conns):
-            conn.send(wire.attach(session) * EACH)
-        comes_to_rest(server)
+        fill_up(server, held, conns, EACH)
         held.let_go()
         if name == "fails":
             same(server.ended(), (3, "", "femem: store device\n"))

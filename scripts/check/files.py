@@ -91,9 +91,7 @@ def changed_meanwhile(place):
         there = folder if os.path.exists(folder) else f"{folder}.other"
         left = files_in(there)
         client.work = WORK
-        holds(client.until_end(), f"{name}: the server goes on, {client.answers}")
-        same(len(client.answers), 3, f"{name}: answers")
-        same(server.ended(), (3, "", "femem: store device\n"), name)
+        ends(server, client, name, 3)
         if kept:
             # one more group, which nobody was answered (before it are an attached and three answers)
             left[kept] = with_group(left[kept], 4, ("attached", 7, 1))
@@ -103,6 +101,12 @@ def changed_meanwhile(place):
             os.rename(f"{server.store}.other", server.store)
             goes_on(place, server, client, answered(WORK), "back under its name")
     return f"{len(CHANGES)} changes"
+
+
+def ends(server, client, name, answers=0):
+    """The server ends for its device, and its client got so many answers."""
+    holds(client.until_end(), f"{name}: the server goes on, {client.answers}")
+    same((len(client.answers), server.ended()), (answers, (3, "", "femem: store device\n")), name)
 
 
 def copied_over(path, backup):
@@ -168,9 +172,7 @@ def overwritten(place):
         same(client.answers, answered(WORK)[:5], name)
         change(server.store, backup)
         client.work = WORK
-        holds(client.until_end(), f"{name}: the server goes on, {client.answers}")
-        same(len(client.answers), 5, f"{name}: answers")
-        same(server.ended(), (3, "", "femem: store device\n"), name)
+        ends(server, client, name, 5)
         os.unlink(server.socket)
         place_then = "place 0\n" if name == "a hole" else "place 4\narray 1 cells 2\nsession 7 floor 1 kept 3\n"
         same(server.looks(), place_then, name)
@@ -204,8 +206,7 @@ def overwritten_early(place):
         server = Server(place, f"e{number}", store=path, format=not served).start()
         copied_over(path, place.write("copied", stored(*copied)))
         client = Client(server, WORK[:1])
-        holds(client.until_end(), f"{name}: the server goes on, {client.answers}")
-        same(server.ended(), (3, "", "femem: store device\n"), name)
+        ends(server, client, name)
         holds(place.read(os.path.basename(path)) == stored(*copied), f"{name}: what the file has")
         os.unlink(server.socket)
         server.start().stop()
@@ -241,8 +242,7 @@ def equal_groups(place):
         same(backup[gates[0] + 1 : gates[1]] == served[gates[0] + 1 : gates[1]], True, f"{name}: the bytes between them are equal")
         copied_over(server.store, place.write("copied", bytes(backup)))
         client = Client(server, WORK[:1])
-        holds(client.until_end(), f"{name}: the server goes on, {client.answers}")
-        same(server.ended(), (3, "", "femem: store device\n"), name)
+        ends(server, client, name)
         holds(place.read("e.store") == bytes(backup), f"{name}: what the file has")
     return "after 1, 2 and 5 groups, and after one of two entries"
 

@@ -7,6 +7,7 @@ the server. Killing a host's first process kills the whole host at once, and wha
 Outside the gate: it needs root, /dev/fuse, loop devices and the Debian packages below. `make check-hosts` runs it.
 """
 
+import contextlib
 import os
 import random
 import shutil
@@ -267,21 +268,30 @@ def taken_over(place):
     return f"{TAKE_OVERS} hosts killed, {answers} answers before, {crew.history.checkpoints} checkpoints, {crew.history.state.place} entries"
 
 
+@contextlib.contextmanager
+def loaded(place, least, confirmed=2):
+    """A pair and its crew, over a mirror that confirms what so many disks have, after at least so many answers. What the other host no
+    longer lends is confirmed by one."""
+    with Pair(place) as pair:
+        crew = Crew(begun(pair, confirmed))
+        if confirmed == 1:
+            pair.hosts[1].keeps()
+        crew.load.begin()
+        crew.load.wait_for(lambda: crew.load.answered >= least, 30)
+        holds(crew.load.answered >= least, f"only {crew.load.answered} answers")
+        yield *pair.hosts, crew
+
+
 @within(120)
 def peer_is_lost(place):
     """the other host is killed under load: the server ends with `femem: store device`, and both disks have everything answered"""
-    with Pair(place) as pair:
-        active, other = pair.hosts
-        server = begun(pair)
-        crew = Crew(server)
-        crew.over(server)
-        crew.load.wait_for(lambda: crew.load.answered >= 300, 30)
+    with loaded(place, 300) as (active, other, crew):
+        server = crew.load.server
         other.dies()
         server.ends()
         same((server.process.returncode, server.errors()), (3, "femem: store device\n"))
         crew.load.join()
         answered = crew.load.answered
-        holds(answered >= 300, f"only {answered} answers")
         active.dies()
         # Each disk alone, on a restarted host. (One may have a group that the other lacks: that group was not answered.)
         told = {client: list(client.told) for client in crew.load.clients}
@@ -306,18 +316,13 @@ def is_still(load):
 @within(120)
 def wire_is_cut(place):
     """the wire is cut under load, without an error: from then on no client is answered, and the other host has everything answered"""
-    with Pair(place) as pair:
-        active, other = pair.hosts
-        crew = Crew(begun(pair))
-        crew.over(crew.load.server)
-        crew.load.wait_for(lambda: crew.load.answered >= 300, 30)
+    with loaded(place, 300) as (active, other, crew):
         other.do("ip", "link", "set", "wire", "down")
         # (for a moment, answers confirmed before are still on their way to the clients)
         until(lambda: is_still(crew.load), 30, "nobody is answered")
         answered = crew.load.answered
         time.sleep(1.5)
         same(crew.load.answered, answered, "answers while the wire is cut")
-        holds(answered >= 300, f"only {answered} answers")
         active.dies()
         crew.load.join()
         crew.compare(other.takes_over())
@@ -327,15 +332,8 @@ def wire_is_cut(place):
 @within(120)
 def one_side_is_not_enough(place):
     """with a mirror that confirms what one disk has, the same check finds answers that the other host lost"""
-    with Pair(place) as pair:
-        active, other = pair.hosts
-        server = begun(pair, confirmed=1)
-        crew = Crew(server)
-        other.keeps()
-        crew.over(server)
-        crew.load.wait_for(lambda: crew.load.answered >= 500, 30)
+    with loaded(place, 500, confirmed=1) as (active, other, crew):
         answered = crew.load.answered
-        holds(answered >= 500, "the server goes on with one disk")
         active.dies()
         crew.load.join()
         server = other.takes_over()

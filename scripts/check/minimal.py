@@ -42,11 +42,13 @@ def kit():
 class Minimal:
     """The root of a minimal Debian with a user, a clone of this repository and `make`; one for all checks of a run."""
 
-    def __init__(self, place):
+    def __init__(self, place, *packages):
         self.place = place
         self.root = os.path.join(os.path.dirname(place.folder), "minimal")
         if not os.path.isdir(self.root):
             self.make()
+        if packages:
+            self.does("root", f"apt-get -q -y install {' '.join(packages)}")
 
     def make(self):
         if os.geteuid() != 0:
@@ -93,8 +95,7 @@ def lacks(place):
 @within(1200)
 def first_commands(place):
     """a minimal Debian with the packages that the README names for `make run`: the first commands of CONTRIBUTING.md, by a user and by root"""
-    minimal = Minimal(place)
-    minimal.does("root", f"apt-get -q -y install {' '.join(packages_of_the_pages()[0])}")
+    minimal = Minimal(place, *packages_of_the_pages()[0])
     os.symlink(f"{kit()}/bin/rt", f"{minimal.root}/usr/local/bin/rt")
     found = re.search(r"^```sh\n(make run.*?)^```\n\n(.*?)\n\n", text_of("CONTRIBUTING.md"), re.M | re.S)
     printed = re.findall(r"`(welcome [^`]*|[0-9]+ [^`]*)`", found[2])
@@ -120,8 +121,7 @@ def tests_lack(place):
 @within(600)
 def packs(place):
     """a minimal Debian with what packaging/README.md names for `make deb` besides: a user makes the six packages, without a network"""
-    minimal = Minimal(place)
-    minimal.does("root", f"apt-get -q -y install {' '.join(packages_of_the_pages()[2])}")
+    minimal = Minimal(place, *packages_of_the_pages()[2])
     said = minimal.does(USER, "scripts/make_deb --unproved out/unproved/femem-unproved out/dist", CLONE, network=False)
     same(sorted(os.path.basename(it).split("_")[0] for it in said.split()), sorted(NAMES))
 
@@ -129,8 +129,7 @@ def packs(place):
 @within(600)
 def tests_have(place):
     """a minimal Debian with all packages that the pages name: `make test` names root alone to a user, and nothing to root"""
-    minimal = Minimal(place)
-    minimal.does("root", f"apt-get -q -y install {' '.join(packages_of_the_pages()[1])}")
+    minimal = Minimal(place, *packages_of_the_pages()[1])
     for user, wanted in ((USER, [("root", "")]), ("root", [])):
         said = minimal.runs(user, TEST, CLONE)[1]
         same(LACKS.findall(said), wanted, f"{user}: {said[:1000]}")
@@ -141,8 +140,7 @@ def tests_have(place):
 @within(1200)
 def pages(place):
     """a minimal Debian with what the README names: the commands of the pages, as deb_pages.py runs them"""
-    minimal = Minimal(place)
-    minimal.does("root", f"apt-get -q -y install systemd {' '.join(packages_of_the_pages()[1])}")
+    minimal = Minimal(place, "systemd", *packages_of_the_pages()[1])
     before = os.environ.get("FEMEM_CLEAN_ROOT")
     os.environ["FEMEM_CLEAN_ROOT"] = minimal.root
     try:
