@@ -68,34 +68,6 @@ def in_parallel(place):
     return f"{clients * calls} calls"
 
 
-def hand_overs(place):
-    """16 producers and 16 consumers over 4 words: each value is taken once"""
-    server = Server(place).start()
-    made(server, (b"queue", 4, 0))
-    pairs, each = 16, 40
-    taken = [[] for _ in range(pairs)]
-
-    def work(client):
-        # (each word is filled as often as it is emptied, so no client waits for ever)
-        with server.attached(client) as conn:
-            for number in range(1, each + 1):
-                if client < pairs:
-                    ask = ("access", 19, 1, client % 4, client * 1000 + number, False)
-                else:
-                    ask = ("access", 16, 1, client % 4, 0, False)
-                reply = conn.ask(wire.call(number, ask))
-                same(reply[:2], ("answer", number))
-                if client >= pairs:
-                    taken[client - pairs].append(reply[2][1])
-                if number % 20 == 0:
-                    same(conn.ask(wire.settle(number + 1)), ("settled", number + 1))
-
-    together(2 * pairs, work)
-    wanted = sorted(client * 1000 + number for client in range(pairs) for number in range(1, each + 1))
-    same(sorted(value for it in taken for value in it), wanted)
-    return f"{pairs * each} values"
-
-
 def held_call_holds_one(place):
     """a call held between its read and its handling holds up no other connection: one made then is answered first"""
     held = Held(place, "recv")

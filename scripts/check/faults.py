@@ -320,18 +320,6 @@ def refused_in_turn(place, library, words, status):
     return count
 
 
-def few_files(place):
-    """a server with a low limit on open files: connections beyond it wait, and are served once others have ended"""
-    server = Server(place, connections=256).start(limit=(resource.RLIMIT_NOFILE, 16))
-    conns = [server.connect() for _ in range(30)]
-    for conn in conns:
-        # (each is served in the end, since those before it are closed)
-        same(conn.ask(wire.report())[0], "report")
-        conn.close()
-    with server.attached(7) as conn:
-        same(conn.ask(wire.call(1, ("find", b"a"))), ("answer", 1, ("no-array",)))
-
-
 def little_memory(place):
     """a server with little memory: each connection is served or closed, and the server goes on or ends with `femem: memory`"""
     told = {}

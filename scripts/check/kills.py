@@ -425,22 +425,3 @@ def killed_in_migrations(place):
 def read(server, history, load):
     history.read(Path(server.store).read_bytes())
     load.compare(history)
-
-
-@within(90)
-def killed_in_its_beginning(place):
-    """a server is killed at a random moment while it makes its store: the next one serves, and nothing but the store is left"""
-    began = time.monotonic()
-    Server(place, "whole").start().stop()
-    seconds, begun = time.monotonic() - began, 0
-    for turn in range(25):
-        server = Server(place, f"{turn}").start(waits=False)
-        time.sleep(random.uniform(0, seconds))
-        server.stop()
-        begun += not os.path.exists(server.store)
-        again = Server(place, f"{turn}").start()
-        again.attached(7).close()
-        again.stop()
-        same(again.looks(), "place 1\nsession 7 floor 1 kept 0\n")
-        same([file for file in os.listdir(place.folder) if file.startswith(f"{turn}.store")], [f"{turn}.store"])
-    return f"{begun} had no store yet"

@@ -30,14 +30,9 @@ static const char *store, *kept;
 static int store_file = -1;
 static long syncs;
 
-typedef int (*opener)(const char *, int, ...);
-typedef int (*of_file)(int);
-typedef int (*adviser)(int, off_t, off_t, int);
-typedef ssize_t (*writer)(int, const void *, size_t, off_t);
-
-#define REAL(type, name) \
-  static type real; \
-  if (!real) real = (type)dlsym(RTLD_NEXT, name)
+#define REAL(call) \
+  static __typeof__(&call) real; \
+  if (!real) real = (__typeof__(&call))dlsym(RTLD_NEXT, #call)
 
 static void fail(void) {
   static const char text[] = "lose.c: no file of pages\n";
@@ -69,7 +64,7 @@ static void keep(void) {
 }
 
 int open(const char *path, int flags, ...) {
-  REAL(opener, "open");
+  REAL(open);
   va_list more;
   va_start(more, flags);
   mode_t mode = flags & O_CREAT ? va_arg(more, mode_t) : 0;
@@ -80,7 +75,7 @@ int open(const char *path, int flags, ...) {
 }
 
 ssize_t pwrite(int file, const void *bytes, size_t size, off_t at) {
-  REAL(writer, "pwrite");
+  REAL(pwrite);
   if (file != store_file || !size) return real(file, bytes, size, at);
   pthread_mutex_lock(&lock);
   int had_lost = 0;
@@ -99,7 +94,7 @@ ssize_t pwrite(int file, const void *bytes, size_t size, off_t at) {
 ssize_t pwrite64(int file, const void *bytes, size_t size, off_t at) __attribute__((alias("pwrite")));
 
 int fdatasync(int file) {
-  REAL(of_file, "fdatasync");
+  REAL(fdatasync);
   if (file != store_file) return real(file);
   pthread_mutex_lock(&lock);
   int fails = syncs && --syncs == 0;
@@ -114,9 +109,9 @@ int fdatasync(int file) {
 }
 
 int posix_fadvise(int file, off_t at, off_t size, int advice) {
-  REAL(adviser, "posix_fadvise");
-  static writer put;
-  if (!put) put = (writer)dlsym(RTLD_NEXT, "pwrite");
+  REAL(posix_fadvise);
+  static __typeof__(&pwrite) put;
+  if (!put) put = (__typeof__(&pwrite))dlsym(RTLD_NEXT, "pwrite");
   if (file == store_file && advice == POSIX_FADV_DONTNEED) {
     pthread_mutex_lock(&lock);
     for (off_t page = at / PAGE; page < PAGES && (!size || (page + 1) * PAGE <= at + size); page++) {

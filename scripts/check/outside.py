@@ -1,15 +1,14 @@
-"""What runs outside the gate still works: the benches, on so little work that their figures mean nothing, and scripts/try_disks.
-And the gate runs all checks that there are."""
+"""What runs outside the gate still works: the benches, on so little work that their figures mean nothing. And the gate runs all checks that
+there are."""
 
 import json
 import os
 import re
 import shutil
 
-from . import counted, wrong_disks
+from . import counted
 from .clients import output_of
 from .harness import Server, Skipped, compiler, holds, same, within
-from .texts import text_of, told
 
 TOP = os.path.normpath(os.path.join(os.path.dirname(os.path.realpath(__file__)), "..", ".."))
 TOOLS = ["growth_tool", "limits", "load", "redis_load", "slow_sync.so", "stand_in"]
@@ -60,12 +59,6 @@ def competing_threads(place):
     # (holds that lost their processor are left out, with up to a batch of entries each)
     holds(all(0.9 * MESSAGES < count <= MESSAGES for count in counts), said)
     return f"{counts[0]} messages"
-
-
-def disk_edits(_place):
-    """each text that scripts/try_disks replaces in the crates stands there once"""
-    edits = wrong_disks.edits()
-    return told([f"{path}: {old}" for path, old, _ in edits if text_of(path).count(old) != 1], len(edits), 15, "edits")
 
 
 def all_run(_place):

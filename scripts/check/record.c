@@ -34,9 +34,9 @@ static int lines = -1, bytes = -1, accepted;
 static long turn, changes;
 static char how;
 
-#define REAL(type, name) \
-  static type real; \
-  if (!real) real = (type)dlsym(RTLD_NEXT, name)
+#define REAL(call) \
+  static __typeof__(&call) real; \
+  if (!real) real = (__typeof__(&call))dlsym(RTLD_NEXT, #call)
 /* (an offset has 64 bits on this machine whatever the name) */
 #define SAME_AS(name) __attribute__((alias(name)))
 
@@ -128,16 +128,8 @@ static int refused(void) {
 /* The result of such a call, if it is not a write. */
 #define CAME(way, call) (way == 'f' || way == 's' ? refused() : (call))
 
-typedef int (*opener)(const char *, int, ...);
-typedef int (*of_file)(int);
-typedef ssize_t (*writer)(int, const void *, size_t);
-typedef ssize_t (*placed_writer)(int, const void *, size_t, off_t);
-typedef ssize_t (*placed_reader)(int, void *, size_t, off_t);
-typedef ssize_t (*sender)(int, const void *, size_t, int);
-typedef ssize_t (*receiver)(int, void *, size_t, int);
-
 int open(const char *path, int flags, ...) {
-  REAL(opener, "open");
+  REAL(open);
   va_list more;
   va_start(more, flags);
   mode_t mode = flags & O_CREAT ? va_arg(more, mode_t) : 0;
@@ -155,7 +147,7 @@ int open(const char *path, int flags, ...) {
 int open64(const char *path, int flags, ...) SAME_AS("open");
 
 int close(int file) {
-  REAL(of_file, "close");
+  REAL(close);
   if (file >= 0 && file < FILES) {
     if (lines >= 0 && file >= FILES - 2) return 0;
     names[file][0] = 0;
@@ -166,8 +158,7 @@ int close(int file) {
 /* A call that changes what is in the folder, if `mine` holds: it is counted, and noted in that form. */
 #define CHANGE(call, parameters, given, mine, ...) \
   int call parameters { \
-    typedef int (*type) parameters; \
-    REAL(type, #call); \
+    REAL(call); \
     if (!(mine)) return real given; \
     char way = next(); \
     int result = CAME(way, real given); \
@@ -189,45 +180,40 @@ CHANGE(unlink, (const char *path), (path), within(path), "unlink %s", within(pat
 /* How many bytes such a write writes. */
 static size_t of(char way, size_t size) { return way == 'h' || way == 's' ? size / 2 : size; }
 
-ssize_t write(int file, const void *from, size_t size) {
-  REAL(writer, "write");
-  const char *found = named(file);
-  if (!found) return real(file, from, size);
-  char way = next();
-  ssize_t wrote = way == 'f' ? 0 : real(file, from, of(way, size));
-  ssize_t result = way == 'f' || way == 's' ? refused() : wrote;
-  note(from, wrote > 0 ? (size_t)wrote : 0, result, "write %s %zd", found, wrote > 0 ? wrote : 0);
-  over(way);
-  return result;
-}
+#define WRITES(call, parameters, given, ...) \
+  ssize_t call parameters { \
+    REAL(call); \
+    char way = named(file) ? next() : 0; \
+    ssize_t wrote = way == 'f' ? 0 : real given, count = wrote > 0 ? wrote : 0; \
+    ssize_t result = way == 'f' || way == 's' ? refused() : wrote; \
+    if (named(file)) note(from, (size_t)count, result, __VA_ARGS__, count); \
+    over(way); \
+    return result; \
+  }
 
-ssize_t pwrite(int file, const void *from, size_t size, off_t at) {
-  REAL(placed_writer, "pwrite");
-  const char *found = named(file);
-  if (!found) return real(file, from, size, at);
-  char way = next();
-  ssize_t wrote = way == 'f' ? 0 : real(file, from, of(way, size), at);
-  ssize_t result = way == 'f' || way == 's' ? refused() : wrote;
-  note(from, wrote > 0 ? (size_t)wrote : 0, result, "pwrite %s %ld %zd", found, (long)at, wrote > 0 ? wrote : 0);
-  over(way);
-  return result;
-}
-
+WRITES(write, (int file, const void *from, size_t size), (file, from, of(way, size)), "write %s %zd", named(file))
+WRITES(pwrite, (int file, const void *from, size_t size, off_t at), (file, from, of(way, size), at), "pwrite %s %ld %zd", named(file), (long)at)
 ssize_t pwrite64(int file, const void *from, size_t size, off_t at) SAME_AS("pwrite");
 
-ssize_t pread(int file, void *to, size_t size, off_t at) {
-  REAL(placed_reader, "pread");
-  const char *found = named(file);
-  ssize_t got = real(file, to, size, at);
-  if (found) note(NULL, 0, got, "pread %s %ld %zu", found, (long)at, size);
-  return got;
-}
+/* A call that changes nothing, noted in that form if `mine` holds. */
+#define NOTED(kind, call, parameters, given, mine, ...) \
+  kind call parameters { \
+    REAL(call); \
+    kind result = real given; \
+    if (mine) note(NULL, 0, (long)result, __VA_ARGS__); \
+    return result; \
+  }
 
+/* (the end of an open file is its size) */
+NOTED(off_t, lseek, (int file, off_t to, int from), (file, to, from), named(file), "lseek %s", named(file))
+NOTED(int, flock, (int file, int kind), (file, kind), named(file), "flock %s %d", named(file), kind)
+NOTED(ssize_t, pread, (int file, void *to, size_t size, off_t at), (file, to, size, at), named(file), "pread %s %ld %zu", named(file), (long)at, size)
+NOTED(int, statx, (int at, const char *path, int flags, unsigned mask, struct statx *to), (at, path, flags, mask, to),
+      *path ? within(path) : named(at), "%s %s", *path ? "stat" : "fstat", *path ? within(path) : named(at))
 ssize_t pread64(int file, void *to, size_t size, off_t at) SAME_AS("pread");
 
 int posix_fadvise(int file, off_t at, off_t size, int advice) {
-  typedef int (*adviser)(int, off_t, off_t, int);
-  REAL(adviser, "posix_fadvise");
+  REAL(posix_fadvise);
   const char *found = named(file);
   if (!found) return real(file, at, size, advice);
   char way = next();
@@ -240,18 +226,8 @@ int posix_fadvise(int file, off_t at, off_t size, int advice) {
   return result;
 }
 
-int flock(int file, int kind) {
-  typedef int (*locker)(int, int);
-  REAL(locker, "flock");
-  const char *found = named(file);
-  int result = real(file, kind);
-  if (found) note(NULL, 0, result, "flock %s %d", found, kind);
-  return result;
-}
-
 int fcntl(int file, int what, ...) {
-  typedef int (*asker)(int, int, ...);
-  REAL(asker, "fcntl");
+  REAL(fcntl);
   va_list more;
   va_start(more, what);
   void *given = va_arg(more, void *);
@@ -262,29 +238,9 @@ int fcntl(int file, int what, ...) {
   return result;
 }
 
-int statx(int at, const char *path, int flags, unsigned mask, struct statx *to) {
-  typedef int (*asker)(int, const char *, int, unsigned, struct statx *);
-  REAL(asker, "statx");
-  const char *found = *path ? within(path) : named(at);
-  int result = real(at, path, flags, mask, to);
-  if (found) note(NULL, 0, result, "%s %s", *path ? "stat" : "fstat", found);
-  return result;
-}
-
-/* The end of an open file is its size. */
-off_t lseek(int file, off_t to, int from) {
-  typedef off_t (*seeker)(int, off_t, int);
-  REAL(seeker, "lseek");
-  const char *found = named(file);
-  off_t result = real(file, to, from);
-  if (found) note(NULL, 0, (long)result, "lseek %s", found);
-  return result;
-}
-
 /* The path of an open file is the target of its descriptor's link. */
 ssize_t readlink(const char *path, char *to, size_t size) {
-  typedef ssize_t (*asker)(const char *, char *, size_t);
-  REAL(asker, "readlink");
+  REAL(readlink);
   int file;
   const char *found = sscanf(path, "/proc/self/fd/%d", &file) == 1 ? named(file) : NULL;
   ssize_t count = real(path, to, size);
@@ -293,8 +249,7 @@ ssize_t readlink(const char *path, char *to, size_t size) {
 }
 
 int accept4(int file, struct sockaddr *from, socklen_t *size, int flags) {
-  typedef int (*accepter)(int, struct sockaddr *, socklen_t *, int);
-  REAL(accepter, "accept4");
+  REAL(accept4);
   int made = real(file, from, size, flags);
   if (made >= 0 && lines >= 0) {
     char number[16];
@@ -305,14 +260,14 @@ int accept4(int file, struct sockaddr *from, socklen_t *size, int flags) {
 }
 
 ssize_t send(int file, const void *from, size_t size, int flags) {
-  REAL(sender, "send");
+  REAL(send);
   const char *found = named(file);
   if (found) note(from, size, 0, "send %s %zu", found, size);
   return real(file, from, size, flags);
 }
 
 ssize_t recv(int file, void *to, size_t size, int flags) {
-  REAL(receiver, "recv");
+  REAL(recv);
   char found[128] = "";
   if (named(file)) snprintf(found, sizeof found, "%s", named(file));
   ssize_t got = real(file, to, size, flags);

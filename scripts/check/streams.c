@@ -61,52 +61,45 @@ static size_t shorter(const char *kind, size_t size) {
   return most && size > most && strcmp(kind, call) == 0 ? most : size;
 }
 
-#define REAL(type, name) \
-  static type real; \
-  if (!real) real = (type)dlsym(RTLD_NEXT, name)
-
-typedef ssize_t (*reader)(int, void *, size_t);
-typedef ssize_t (*writer)(int, const void *, size_t);
-typedef ssize_t (*receiver)(int, void *, size_t, int);
-typedef ssize_t (*sender)(int, const void *, size_t, int);
-typedef int (*syncer)(int);
-typedef int (*listener)(int, int);
+#define REAL(call) \
+  static __typeof__(&call) real; \
+  if (!real) real = (__typeof__(&call))dlsym(RTLD_NEXT, #call)
 
 ssize_t read(int file, void *bytes, size_t size) {
-  REAL(reader, "read");
+  REAL(read);
   if (file != 0) return real(file, bytes, size);
   return is_broken("read") || fails("read") ? -1 : real(file, bytes, shorter("read", size));
 }
 
 ssize_t write(int file, const void *bytes, size_t size) {
-  REAL(writer, "write");
+  REAL(write);
   if (file != 1) return real(file, bytes, size);
   return is_broken("write") || fails("write") ? -1 : real(file, bytes, shorter("write", size));
 }
 
 ssize_t recv(int file, void *bytes, size_t size, int flags) {
-  REAL(receiver, "recv");
+  REAL(recv);
   if (is_broken("recv")) return -1;
   ssize_t got = real(file, bytes, shorter("recv", size), flags);
   return got >= 0 && fails("recv") ? -1 : got;
 }
 
 ssize_t send(int file, const void *bytes, size_t size, int flags) {
-  REAL(sender, "send");
+  REAL(send);
   return is_broken("send") || fails("send") ? -1 : real(file, bytes, shorter("send", size), flags);
 }
 
 int fdatasync(int file) {
-  REAL(syncer, "fdatasync");
+  REAL(fdatasync);
   return fails("fdatasync") ? -1 : real(file);
 }
 
 int flock(int file, int how) {
-  REAL(listener, "flock");
+  REAL(flock);
   return fails("flock") ? -1 : real(file, how);
 }
 
 int listen(int file, int waiting) {
-  REAL(listener, "listen");
+  REAL(listen);
   return fails("listen") ? -1 : real(file, waiting);
 }
