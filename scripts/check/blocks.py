@@ -1,12 +1,11 @@
 """The blocks of the documents: each is listed here, with the check that runs or compares it, or why none does."""
 
-import glob
 import os
 import re
 import subprocess
 
 from .harness import Server, holds, same
-from .texts import PAGES, TOP, block, split, text_of, told
+from .texts import PAGES, TOP, block, matching, split, text_of, told
 
 # Every block of the documents, by its first words: the checks that run it or compare it, or `not run:` and why none does.
 NOT_RUN = "not run: "
@@ -132,7 +131,7 @@ def timeline(place):
 def planted_edit(_place):
     """the edit that CONTRIBUTING.md shows is one of fe_wire's"""
     wanted = block("CONTRIBUTING.md", "# clause: Decoder::feed reads").strip()
-    edits = [text_of(it).strip() for it in glob.glob(os.path.join(TOP, "crates", "fe_wire", "must-fail", "*.edit"))]
+    edits = [text_of(it).strip() for it in matching("crates/fe_wire/must-fail/*.edit")]
     holds(edits and wanted in edits, f"no edit of fe_wire is\n{wanted}")
 
 

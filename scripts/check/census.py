@@ -6,13 +6,11 @@ that it stands in, its name, and each clause, as `e` (ensures) or `r` (requires)
 Other lines are `CRATE constant NAME VALUE` for each constant, also a private one; `CRATE ghost BLOCK NAME SUM` for each member of a
 type or trait that only clauses see, as an invariant; and `CRATE definition FILE NAME SUM` for each definition in specs/."""
 
-import glob
 import hashlib
-import os
 import re
 
 from . import closure
-from .texts import TOP, text_of, told
+from .texts import matching, text_of, told
 
 KEPT = "scripts/check/clauses.txt"
 BLOCK = re.compile(r"(?:pub )?(?:unsafe )?(impl|trait)\b.*")
@@ -86,13 +84,8 @@ def rows_of(crate, text):
 
 def rows():
     """All lines, in order."""
-    found = []
-    for path in sorted(glob.glob(os.path.join(TOP, "crates", "*", "src", "**", "*.rt"), recursive=True)):
-        name = os.path.relpath(path, TOP)
-        crate = name.split("/")[1]
-        if not crate.startswith("test_"):
-            found += rows_of(crate, text_of(name))
-    return [*found, *definitions()]
+    names = [it for it in matching("crates/*/src/**/*.rt") if not it.startswith("crates/test_")]
+    return [*(row for name in names for row in rows_of(name.split("/")[1], text_of(name))), *definitions()]
 
 
 def kept(_place):

@@ -1,13 +1,10 @@
 """What a reader of docs/headline.md has to believe: the definitions on which those that it names rest, counted from their text."""
 
 import functools
-import glob
-import os
 import re
-from pathlib import Path
 
 from .harness import holds, same
-from .texts import TOP, split, text_of
+from .texts import matching, split, text_of
 
 DEFINITION = re.compile(r"(?:abbrev |unfoldable )?pub (?:record |data |abbrev |unfoldable )?([^\s:(]+)|(?:abbrev|unfoldable|record|data) (\w+)")
 WORD = re.compile(r"[A-Za-z_][\w'-]*(?:\.[A-Za-z_][\w'-]*)?")
@@ -53,11 +50,7 @@ class Module:
 @functools.cache
 def modules():
     """The files of specs/ of all crates, by their module's name."""
-    found = {}
-    root = os.path.join(TOP, "crates")
-    for path in glob.glob(os.path.join(root, "*", "specs", "**", "*.antt"), recursive=True):
-        found[os.path.relpath(path, root)[:-5].replace("/", ".")] = Module(Path(path).read_text("utf-8").split("\n"))
-    return found
+    return {it[len("crates/") : -len(".antt")].replace("/", "."): Module(text_of(it).split("\n")) for it in matching("crates/*/specs/**/*.antt")}
 
 
 def meant(module, word):

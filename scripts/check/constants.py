@@ -1,12 +1,11 @@
 """The numbers and words on which the strength of the gate rests. A change of one is a change of this file, and of CONTRIBUTING.md."""
 
-import glob
 import os
 import re
 
 from .harness import same
 from .tables import rows
-from .texts import TOP, text_of, told
+from .texts import matching, text_of, told
 
 # How often the server is killed under load, and how often each check of stops kills it.
 KILLS, STOPS = 100, 12
@@ -60,7 +59,7 @@ def test_files(_place):
     """each file of tests in C and of femem-cli is one that its Makefile runs"""
     missing = []
     for folder, ending, others in (("c", ".c", {"model"}), ("cli", ".sh", set())):
-        there = {os.path.basename(it)[5 : -len(ending)] for it in glob.glob(os.path.join(TOP, "clients", folder, f"test_*{ending}"))}
+        there = {os.path.basename(it)[5 : -len(ending)] for it in matching(f"clients/{folder}/test_*{ending}")}
         run = re.search(r"^TESTS := (.*)$", text_of(f"clients/{folder}/Makefile"), re.M)[1].split()
         missing += [f"clients/{folder}: {it}" for it in sorted({*run, *others} ^ there)]
     return told(missing, 1, 1, "list of each")

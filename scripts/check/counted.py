@@ -3,7 +3,6 @@
 A line is a kind, a name, and a count for each time that it runs: `c frames 463 463` runs plain, and with the sanitizers. A count with a
 plus is the least."""
 
-import glob
 import importlib
 import os
 import re
@@ -11,7 +10,7 @@ import subprocess
 import sys
 
 from .harness import checks_in, checks_of, holds
-from .texts import TOP, text_of
+from .texts import TOP, matching, text_of
 
 FILE = "scripts/check/counted.txt"
 PYTHON = os.path.join(TOP, "clients", "python")
@@ -54,7 +53,7 @@ def checks():
     programs = text_of("scripts/check_programs")
     parts = re.findall(r'"(\w+)"', re.search(r"^PARTS = \((.*?)^\)", programs, re.M | re.S)[1] + re.search(r"^NAMED = \{(.*?)^\}", programs, re.M | re.S)[1])
     run, there = {}, set()
-    for path in sorted(glob.glob(os.path.join(TOP, "scripts", "check", "*.py"))):
+    for path in matching("scripts/check/*.py"):
         name = os.path.basename(path).removesuffix(".py")
         there |= {f"{name}.{it.__name__}" for it in checks_in(importlib.import_module(f"check.{name}"))}
         if name in parts:
@@ -66,7 +65,7 @@ def tests_in_python():
     """How many tests each file of the Python client's has, as unittest loads them."""
     script = "import sys, unittest\n" + "".join(f"sys.path.insert(0, {it!r})\n" for it in (PYTHON, os.path.join(PYTHON, "tests")))
     script += "for name in sys.argv[1:]: print(name[5:], unittest.defaultTestLoader.loadTestsFromName(name).countTestCases())"
-    names = sorted(os.path.basename(it).removesuffix(".py") for it in glob.glob(os.path.join(PYTHON, "tests", "test_*.py")))
+    names = [os.path.basename(it).removesuffix(".py") for it in matching("clients/python/tests/test_*.py")]
     ran = subprocess.run([sys.executable, "-B", "-c", script, *names], capture_output=True, text=True, check=True)
     return {name: [int(count)] for name, count in (line.split() for line in ran.stdout.splitlines())}
 

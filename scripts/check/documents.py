@@ -1,12 +1,11 @@
 """The documents: their blocks run, what they name exists, and their links lead somewhere."""
 
-import glob
 import html
 import os
 import re
 from pathlib import Path
 
-from .texts import NAME, PAGES, READMES, TOP, bases, exists, headings, is_path, prose, slug, text_of, told
+from .texts import NAME, PAGES, READMES, TOP, bases, exists, headings, is_path, matching, prose, slug, text_of, told
 from .wire import OPS
 
 
@@ -59,7 +58,7 @@ def touched(_place):
 
 def crates(_place):
     """each crate is in ARCHITECTURE.md and, unless it is a test, in docs/proved.md, and these pages and the README name no other crate"""
-    there = sorted(os.path.basename(os.path.dirname(it)) for it in glob.glob(os.path.join(TOP, "crates", "*", "src")))
+    there = [it.split("/")[1] for it in matching("crates/*/src")]
     missing = []
     for page, spared in (("ARCHITECTURE.md", ()), ("docs/proved.md", ("test_",)), ("README.md", ("fe", "test_"))):
         named = set(re.findall(r"\b(?:fe|test)_[a-z_]+\b|\bfemem\b", text_of(page)))
@@ -80,8 +79,7 @@ def versions(_place):
 def pictures(_place):
     """each picture has the texts of its source, `docs/NAME.dot`"""
     missing, count = [], 0
-    for path in glob.glob(os.path.join(TOP, "docs", "*.dot")):
-        name = os.path.relpath(path, TOP)
+    for name in matching("docs/*.dot"):
         shown = html.unescape(text_of(f"{name[:-4]}.svg")).replace("\xa0", " ")
         for label in re.findall(r'label = "([^"]*)"', text_of(name)):
             lines = [it for it in re.split(r"\\n|[|{}]", label) if it]

@@ -3,13 +3,12 @@
 `rt ci` passes an edit that it can't apply, so nothing else would notice one that rots."""
 
 import collections
-import glob
 import os
 import re
 
 from .harness import same
 from .sources import below
-from .texts import TOP, text_of, told
+from .texts import matching, text_of, told
 
 # The wrong bodies that a reader would fear most. Each must be tried under this name, in whatever crate.
 FEARED = (
@@ -87,8 +86,7 @@ class Edit:
     def sources(self):
         """The texts of its crate, and then of those below."""
         for crate in (self.crate, *below(self.crate)):
-            for path in sorted(glob.glob(os.path.join(TOP, "crates", crate, "src", "**", "*.rt"), recursive=True)):
-                yield text_of(os.path.relpath(path, TOP))
+            yield from map(text_of, matching(f"crates/{crate}/src/**/*.rt"))
 
 
 def function_at(text, at):
@@ -127,7 +125,7 @@ def has_invariant(text, kind, field):
 
 
 def edits():
-    return [Edit(os.path.relpath(it, TOP)) for it in sorted(glob.glob(os.path.join(TOP, "crates", "*", "must-fail", "*")))]
+    return [Edit(it) for it in matching("crates/*/must-fail/*")]
 
 
 def fit(_place):

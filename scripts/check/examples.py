@@ -3,7 +3,6 @@ dashboard and alert rules, compared with the metrics that there are."""
 
 import collections
 import fcntl
-import glob
 import json
 import os
 import random
@@ -19,7 +18,7 @@ from . import wire
 from .harness import Server, compiler, holds, same, until, within
 from .storetool import PATIENT, ran
 from .manuals import pages  # noqa: F401  (this sets the path of release)
-from .texts import TOP, text_of
+from .texts import TOP, matching, text_of
 
 from release import builds  # noqa: E402
 
@@ -117,9 +116,8 @@ def words_of(server, env, name, count):
 
 def short(_place):
     """each example is below 60 lines"""
-    paths = [it for kind in ("python", "c", "shell") for it in glob.glob(os.path.join(EXAMPLES, kind, "*.*"))]
-    for path in paths:
-        holds(text_of(os.path.relpath(path, TOP)).count("\n") < 60, f"{path} is long")
+    paths = matching("examples/python/*.*", "examples/c/*.*", "examples/shell/*.*")
+    same([it for it in paths if text_of(it).count("\n") >= 60], [], "long examples")
     holds(len(paths) >= 9, f"only {len(paths)} examples")
     return f"{len(paths)} examples"
 

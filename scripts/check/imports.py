@@ -1,10 +1,8 @@
 """Imports of the sources: each name that one brings in stands again in its file."""
 
-import glob
-import os
 import re
 
-from .texts import TOP, text_of, told
+from .texts import matching, text_of, told
 
 # An import, in a contract's language or in Rust: the path, and the names in braces or the one after `as`.
 USE = re.compile(r"^\s*(?:ghost )?use (\S+?)(?:(?:\.|::)\{(.*)\}| as ([\w-]+))?;?$", re.M)
@@ -32,12 +30,11 @@ def imports(_place):
     """each name that a file of src, specs or proofs imports stands in it again"""
     count, wrong = 0, []
     for folder, kind in (("src", "rt"), ("specs", "antt"), ("proofs", "antt")):
-        for file in sorted(glob.glob(os.path.join(TOP, "crates", "*", folder, "**", f"*.{kind}"), recursive=True)):
-            path = os.path.relpath(file, TOP)
+        for path in matching(f"crates/*/{folder}/**/*.{kind}"):
             text = COMMENT.sub("", PASSED_ON.sub("", text_of(path)))
             body = USE.sub("", text)
-            for found in USE.finditer(text):
-                names = names_of(*found.groups())
+            for use in USE.finditer(text):
+                names = names_of(*use.groups())
                 count += len(names)
                 wrong += [f"{path}: {it}" for it in names if it not in SILENT and not stands(it, body)]
     return told(wrong, count, 10000, "names imported")

@@ -1,12 +1,10 @@
 """Sentences of users' pages, and the tests of the clients that show them: promises.txt has the pairs, so that the pages need not name
 tests. A pair is a line `PAGE: TEST, TEST` and a line with the sentence, two spaces in."""
 
-import glob
-import os
 import re
 
 from .harness import holds
-from .texts import TOP, text_of, told
+from .texts import matching, text_of, told
 
 FILE = "scripts/check/promises.txt"
 # Where a page's tests are, and how one begins there.
@@ -36,7 +34,7 @@ def kept(_place):
     missing, count = [], 0
     for page, (places, form) in TESTS.items():
         text = text_of(page)
-        tests = "".join(text_of(os.path.relpath(path, TOP)) for place in places for path in sorted(glob.glob(os.path.join(TOP, place))))
+        tests = "".join(map(text_of, matching(*places)))
         for names, sentence in [(names, sentence) for of, names, sentence in pairs() if of == page]:
             count += 1
             missing += [] if text.count(sentence) == 1 else [f"{page} has {text.count(sentence)} times: {sentence}"]

@@ -3,7 +3,6 @@
 It reads what `rt ci` said, from `--log FILE`, and runs the test programs that it left. It also tries scripts/seed over the libraries
 that it left."""
 
-import glob
 import os
 import re
 import shutil
@@ -14,7 +13,7 @@ from .clients import output_of
 from .edits import edits
 from .harness import Skipped, compiler, holds, same, within
 from .sources import all_below
-from .texts import TOP, text_of
+from .texts import TOP, matching, text_of
 
 # Each crate's tests, by name. A test that is renamed or removed is changed here too.
 TESTS = {
@@ -43,8 +42,7 @@ def log_of(place):
 def tests(place):
     """each test that the list names is in the sources, and the gate ran it; the sources have no other"""
     there = {}
-    for path in glob.glob(os.path.join(TOP, "crates", "*", "src", "**", "*.rt"), recursive=True):
-        name = os.path.relpath(path, TOP)
+    for name in matching("crates/*/src/**/*.rt"):
         there.setdefault(name.split("/")[1], []).extend(TEST.findall(text_of(name)))
     same({crate: sorted(names) for crate, names in there.items() if names}, {crate: sorted(it) for crate, it in TESTS.items()})
     log = log_of(place)

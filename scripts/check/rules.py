@@ -1,11 +1,10 @@
 """Rules of the sources: one record for the disk model, one meaning for a type's name in a file, one width."""
 
-import glob
 import os
 import re
 
 from .sources import source_of
-from .texts import TOP, text_of, told
+from .texts import TOP, matching, text_of, told
 
 PRODUCT = sorted(it for it in os.listdir(os.path.join(TOP, "crates")) if it.startswith("fe"))
 # Members of the trait `Disk`, of any type parameter, that follow one another as arguments.
@@ -24,8 +23,7 @@ USED = re.compile(r"^\s*(?:pub )?use (fe_\w+)::(?:\{([^}]*)\}|(\w+));", re.M)
 
 def sources():
     """The sources of the product's crates: the path and the text of each."""
-    for path in sorted(it for crate in PRODUCT for it in glob.glob(os.path.join(TOP, "crates", crate, "src", "**", "*.rt"), recursive=True)):
-        yield os.path.relpath(path, TOP), text_of(os.path.relpath(path, TOP))
+    return [(it, text_of(it)) for it in matching("crates/fe*/src/**/*.rt")]
 
 
 def device(_place):
@@ -43,14 +41,14 @@ def types(_place):
     count, wrong = 0, []
     for path, text in sources():
         here = {name: path.split("/")[1] for name in TYPE.findall(text)}
-        for found in USED.finditer(text):
-            for item in re.split(r",\s*", (found[2] or found[3]).strip().rstrip(",")):
+        for use in USED.finditer(text):
+            for item in re.split(r",\s*", (use[2] or use[3]).strip().rstrip(",")):
                 name = item.split(" as ")[0].strip()
-                if name not in declared.get(found[1], ()):
+                if name not in declared.get(use[1], ()):
                     continue
                 count += 1
-                if here.setdefault(name, found[1]) != found[1]:
-                    wrong.append(f"{path}: {name} of {here[name]} and of {found[1]}")
+                if here.setdefault(name, use[1]) != use[1]:
+                    wrong.append(f"{path}: {name} of {here[name]} and of {use[1]}")
     return told(wrong, count, 400, "types taken from other crates")
 
 

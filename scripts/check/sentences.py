@@ -3,15 +3,13 @@ those of a source; by a check that reads it; or by sentences.txt, with the reaso
 
 A sentence of that list that changes, and a new one, shows as a line of the change itself, and fails until it is looked at."""
 
-import glob
 import hashlib
-import os
 import re
 
 from .harness import holds
 from .owned import OWNED
 from .tables import Lacks, number
-from .texts import TOP, split, text_of, told
+from .texts import matching, split, text_of, told
 
 FILE = "scripts/check/sentences.txt"
 # Why no source owns the numbers of a page's other sentences.
@@ -68,12 +66,11 @@ def owned(_place):
 
 def forms():
     """The forms of sentences that a check reads, by page, as patterns."""
-    found = [(page, form) for page, form, *_ in OWNED]
-    for path in glob.glob(os.path.join(TOP, "scripts", "check", "*.py")):
-        source = text_of(os.path.relpath(path, TOP))
+    read = [(page, form) for page, form, *_ in OWNED]
+    for source in map(text_of, matching("scripts/check/*.py")):
         page = re.search(r'^PAGE = ("[^"]+")', source, re.M)
-        found += SAID.findall(source.replace("said(PAGE", f"said({page[1]}") if page else source)
-    return [(page, re.compile(re.sub(r"\\#|N|\\\{.*?\\\}", r"[\\w,^]+", re.escape(form)))) for page, form in found]
+        read += SAID.findall(source.replace("said(PAGE", f"said({page[1]}") if page else source)
+    return [(page, re.compile(re.sub(r"\\#|N|\\\{.*?\\\}", r"[\\w,^]+", re.escape(form)))) for page, form in read]
 
 
 def rows():

@@ -1,18 +1,15 @@
 """The sources that documents name: the functions, clauses and definitions of a crate."""
 
 import functools
-import glob
-import os
 import re
 
-from .texts import TOP, exists, text_of
+from .texts import exists, matching, text_of
 
 
 @functools.cache
 def source_of(crate, folder):
     """The files of a crate's `src` or `specs`, as one text."""
-    found = sorted(glob.glob(os.path.join(TOP, "crates", crate, folder, "**", "*.[ar]*"), recursive=True))
-    return "\n".join(text_of(os.path.relpath(it, TOP)) for it in found if it.endswith((".rt", ".antt")))
+    return "\n".join(map(text_of, matching(*(f"crates/{crate}/{folder}/**/*.{kind}" for kind in ("rt", "antt")))))
 
 
 @functools.cache

@@ -21,6 +21,11 @@ ANY = re.compile(r"\b(?:NAME|CRATE|FILE)\b")
 MADE = re.compile(r"out/|PREFIX/|PATH\.")
 
 
+def matching(*patterns):
+    """The files that patterns name, by their paths from the top, in order."""
+    return sorted(os.path.relpath(it, TOP) for pattern in patterns for it in glob.glob(os.path.join(TOP, pattern), recursive=True))
+
+
 def split(text):
     """A document's lines of prose, with their numbers, and its blocks of code, without their indent."""
     prose, blocks, lines, at = [], [], text.split("\n"), 0

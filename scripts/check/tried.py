@@ -1,11 +1,9 @@
 """What docs/proved.md says of its tests: the faults that are tried, and the tests of the server's sockets."""
 
-import glob
-import os
 import re
 
 from .sources import source_of
-from .texts import NAME, TOP, exists, rows_of, text_of, told
+from .texts import NAME, exists, matching, rows_of, text_of, told
 
 PAGE = "docs/proved.md"
 
@@ -24,7 +22,7 @@ def parts(_place):
 
 def sockets(_place):
     """each test of the server's sockets that docs/proved.md names is there, and so is each function that it is about"""
-    checks = "".join(text_of(os.path.relpath(it, TOP)) for it in glob.glob(os.path.join(TOP, "scripts", "check", "*.py")))
+    checks = "".join(map(text_of, matching("scripts/check/*.py")))
     crates = "".join(source_of(it, "src") for it in ("fe_server", "fe_hall", "fe_streams", "test_sockets"))
     functions, words = set(re.findall(r"\b(?:def|fn) (\w+)\(", checks + crates)), set(re.findall(r"\w+", crates))
     missing, count = [], 0
