@@ -9,8 +9,7 @@ import re
 import signal
 from pathlib import Path
 
-from .harness import Server, compiler, holds, same, until, within
-from .install import done
+from .harness import Server, compiler, done, holds, same, until, within
 from .manuals import versions
 from .texts import TOP, text_of, told
 

@@ -4,7 +4,7 @@ import os
 import re
 import subprocess
 
-from .harness import Server, holds, same
+from .harness import Server, done, holds, same
 from .texts import PAGES, TOP, block, matching, split, text_of, told
 
 # Every block of the documents, by its first words: the checks that run it or compare it, or `not run:` and why none does.
@@ -106,7 +106,7 @@ def example_of_commands(place):
     server = Server(place).start()
     words = block("docs/commands.md", "printf 'attach 7").replace("/run/femem/femem.socket", server.socket)
     words = words.replace("femem call", f"'{place.program}' call")
-    same(shell(place, words), block("docs/commands.md", "welcome 7 1"))
+    same(done(place, ["sh", "-e", "-c", words]), block("docs/commands.md", "welcome 7 1"))
 
 
 def timeline(place):
@@ -133,11 +133,3 @@ def planted_edit(_place):
     wanted = block("CONTRIBUTING.md", "# clause: Decoder::feed reads").strip()
     edits = [text_of(it).strip() for it in matching("crates/fe_wire/must-fail/*.edit")]
     holds(edits and wanted in edits, f"no edit of fe_wire is\n{wanted}")
-
-
-def shell(place, words, seconds=100, env=None):
-    """Runs commands in a shell, in the check's folder. All must succeed. Returns their output."""
-    process = place.start(["sh", "-e", "-c", words], "shell", env, group=True)
-    process.wait(seconds * place.options.patience)
-    same(process.returncode, 0, f"{words}\n{place.read('shell.out').decode()}{place.read('shell.err').decode()}")
-    return place.read("shell.out").decode()

@@ -8,8 +8,7 @@ from pathlib import Path
 
 from . import store, wire
 from .clean import DPKG, NAMES, SOCKET, STORE, Clean, Unit, installed
-from .harness import Skipped, holds, same, until, within
-from .install import done
+from .harness import Skipped, done, holds, same, until, within
 from .manuals import versions
 from .kills import Crew, Storm
 from .model import LIMITS

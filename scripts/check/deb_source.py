@@ -6,8 +6,8 @@ import shutil
 import subprocess
 from pathlib import Path
 
-from .harness import Skipped, same, within
-from .install import done, one_commit, recorded
+from .harness import Skipped, done, same, within
+from .install import one_commit, recorded
 from .manuals import versions
 from .packages import field
 from .texts import TOP

@@ -15,7 +15,7 @@ import sys
 import time
 
 from . import wire
-from .harness import Server, compiler, holds, same, until, within
+from .harness import Server, compiler, done, holds, same, until, within
 from .storetool import PATIENT, ran
 from .manuals import pages  # noqa: F401  (this sets the path of release)
 from .texts import TOP, matching, text_of
@@ -349,15 +349,8 @@ def counter(place):
     same([len(counts) for counts in last], [60] * 3, "counts that the last lives printed")
     same(sorted(it for counts in last for it in counts), list(range(1, 181)), "the counts")
     same({int(line) for line in crew.lines()}, set(range(1, 181)), "the counts that all lives printed")
-    same(run(place, env, ["femem-cli", "counter", "steps"]), "180\n")
+    same(done(place, ["femem-cli", "counter", "steps"], env=env), "180\n")
     return f"180 steps, {said}"
-
-
-def run(place, env, words, status=0):
-    process = place.start(words, "command", env, group=True)
-    process.wait()
-    same(process.returncode, status, place.read("command.err").decode())
-    return place.read("command.out").decode()
 
 
 @within(200)
@@ -366,7 +359,7 @@ def rate_limit(place):
     server, env, script = begun(place, "shell", "rate_limit.sh")
     # (a window that does not end meanwhile)
     words = [script, "mails", "7", "100000000", "echo", "sent"]
-    same(run(place, env, words), "sent\n")
+    same(done(place, words, env=env), "sent\n")
     started = [place.start(words, f"start{it}", env, group=True) for it in range(40)]
     time.sleep(0.3)
     server.stop()
@@ -376,7 +369,7 @@ def rate_limit(place):
     # (one that begins while there is no server has not counted)
     holds(set(ends) <= {0, 4, 75} and ends[4] <= 33, f"ends: {ends} {place.read('start0.err').decode()}")
     same((ends[0], sum(place.read(f"start{it}.out") == b"sent\n" for it in range(40))), (6, 6), "starts that ran")
-    run(place, env, words, 75)
+    done(place, words, env=env, status=75)
     return f"{ends[4]} found no server"
 
 
@@ -401,13 +394,13 @@ def nightly(place):
     first.kill()
     server.stop()
     server.start()
-    run(place, env, words(3))
+    done(place, words(3), env=env)
     runs = [int(it) for it in place.read("runs").split()]
     same((len(runs) in (3, 4), runs), (True, sorted(set(runs))), "runs of three days, and their numbers, which grow")
-    run(place, env, words(3))
+    done(place, words(3), env=env)
     same(len(place.read("runs").split()), len(runs), "runs after the day is done")
     holds(not os.path.exists(place.path("wrong")), "two were inside")
-    same(run(place, env, ["femem-cli", "counter", "backup_day"]), "3\n")
+    same(done(place, ["femem-cli", "counter", "backup_day"], env=env), "3\n")
 
 
 METRIC = re.compile(r"\bfemem_[a-z_]+")

@@ -283,6 +283,16 @@ def named(check):
     return check.__doc__.strip()
 
 
+def done(place, words, name="made", env=None, status=0):
+    """Runs a command to its end, and returns its output."""
+    process = place.start(words, name, env, group=True)
+    process.wait()
+    said = place.read(f"{name}.out").decode(errors="replace")
+    errors = place.read(f"{name}.err").decode(errors="replace")
+    same(process.returncode, status, f"{' '.join(words)}: {(said + errors)[-1500:]}")
+    return said if status == 0 else errors
+
+
 def compiler():
     """The C compiler of this machine."""
     for name in (os.environ.get("CC", "cc"), "gcc", "clang"):

@@ -9,7 +9,7 @@ import zipfile
 from pathlib import Path
 
 from .clean import NAMES
-from .harness import Server, compiler, holds, same, within
+from .harness import Server, compiler, done, holds, same, within
 from .manuals import is_well_formed
 from .store import SIZE
 
@@ -19,16 +19,6 @@ from release import pages, record, versions  # noqa: E402
 
 TOP = pages.TOP
 SOCKET, STORE, BACKUP = "/run/femem/femem.socket", "/var/lib/femem/femem.store", "/var/backups/femem/femem.store"
-
-
-def done(place, words, name="made", env=None, status=0):
-    """Runs a command to its end, and returns its output."""
-    process = place.start(words, name, env, group=True)
-    process.wait()
-    said = place.read(f"{name}.out").decode(errors="replace")
-    errors = place.read(f"{name}.err").decode(errors="replace")
-    same(process.returncode, status, f"{' '.join(words)}: {(said + errors)[-1500:]}")
-    return said if status == 0 else errors
 
 
 def program(place):

@@ -8,7 +8,7 @@ import subprocess
 import sys
 
 from . import tables, texts
-from .harness import Skipped, holds, same
+from .harness import Skipped, done, holds, same
 from .storetool import files, ran
 
 sys.path.insert(0, os.path.normpath(os.path.join(os.path.dirname(os.path.realpath(__file__)), "..")))
@@ -37,9 +37,7 @@ def needs_man():
 
 def made(place):
     """Makes the pages. Returns their paths."""
-    process = place.start([os.path.join(pages.TOP, "scripts", "man_pages"), place.path("man")], "man_pages")
-    process.wait()
-    same(process.returncode, 0, place.read("man_pages.err").decode())
+    done(place, [os.path.join(pages.TOP, "scripts", "man_pages"), place.path("man")])
     place.write(f"man/{pages.SHELL[0]}.{pages.SHELL[1]}", pages.page(*pages.SHELL).encode())
     return [place.path(f"man/{name}.{number}") for name, number, *_ in ALL]
 

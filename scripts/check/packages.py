@@ -9,7 +9,7 @@ from pathlib import Path
 
 from . import texts
 from .clean import NAMES, SOCKET, STORE
-from .harness import compiler, holds, same, within
+from .harness import compiler, done, holds, same, within
 from .manuals import versions
 
 TOP = texts.TOP
@@ -40,10 +40,7 @@ UNITS = ("femem.service", "femem-watch.service", "femem-watch.timer", "femem-bac
 def make(place, folder):
     # (a commit made meanwhile would change time and version)
     env = {"SOURCE_DATE_EPOCH": str(versions.epoch()), "FEMEM_COMMIT": f"{NAME} {SECONDS}{' changed' if CHANGED else ''}"}
-    process = place.start([os.path.join(TOP, "scripts", "make_deb"), "--unproved", place.program, folder], "make_deb", env)
-    process.wait()
-    same(process.returncode, 0, place.read("make_deb.err").decode())
-    return place.read("make_deb.out").decode().split()
+    return done(place, [os.path.join(TOP, "scripts", "make_deb"), "--unproved", place.program, folder], env=env).split()
 
 
 def built(place):

@@ -10,8 +10,8 @@ from pathlib import Path
 
 from . import must_fail, wire
 from .clean import NAMES
-from .harness import Skipped, holds, same, until, within
-from .install import done, recorded
+from .harness import Skipped, done, holds, same, until, within
+from .install import recorded
 from .manuals import versions
 from .texts import TOP, text_of
 

@@ -5,7 +5,7 @@ import re
 import subprocess
 from pathlib import Path
 
-from .harness import Wrong, holds, same, within
+from .harness import done, holds, same, within
 from .schedules import content_of, paths
 
 TOP = os.path.normpath(os.path.join(os.path.dirname(os.path.realpath(__file__)), "..", ".."))
@@ -14,10 +14,7 @@ UNPROVED = os.path.join(TOP, "out", "unproved", "femem-unproved")
 
 def built(place):
     """Builds the unproved program as a user does, unless it is up to date."""
-    process = place.start(["make", "-s", "-C", TOP, "run"], "make", stderr=subprocess.STDOUT, group=True)
-    process.wait()
-    said = place.read("make.out").decode(errors="replace")
-    same(process.returncode, 0, said[-1000:])
+    said = done(place, ["make", "-s", "-C", TOP, "run"])
     holds("this build is unproved" in said, "make run says that nothing is proved")
     holds(said.endswith(content_of("first_path", "out").decode()), "make run shows the answers of examples/first_path.txt")
 
@@ -47,12 +44,7 @@ def first_lines(place):
     with open(os.path.join(TOP, "examples", "femem.toml"), encoding="utf-8") as file:
         place.write("femem.toml", file.read().replace("/tmp/femem", place.path("femem")).encode())
     block = found[1].replace("/tmp/femem", place.path("femem")).replace("examples/femem.toml", settings)
-    process = place.start(["bash", "-euc", f"cd {TOP}\n{block}"], "lines", group=True)
-    try:
-        process.wait(120 * place.options.patience)
-    except subprocess.TimeoutExpired:
-        raise Wrong(f"no end: {place.read('lines.out')[-500:]}") from None
-    said = place.read("lines.out").decode(errors="replace").split("\n")
+    said = done(place, ["bash", "-euc", f"cd {TOP}\n{block}"]).split("\n")
     printed = re.findall(r"`(welcome [^`]*|[0-9]+ [^`]*)`", found[2])
     holds(len(printed) == 6, f"the page says what six lines are: {printed}")
     same([it for it in said if re.match(r"welcome |[0-9]+ ", it)][-6:], printed)
