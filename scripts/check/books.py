@@ -7,25 +7,23 @@ from . import wire
 from .crowds import adding, together
 from .harness import Server, holds, same, until
 
-LINES = re.compile(r"calls (\d+) completed (\d+) waiting (\d+) withdrawn (\d+) repeated (\d+) refused (\d+)\nmails (\d+) taken (\d+) dropped (\d+) left (\d+)\n")
+# What a server counts, in two lines: calls and what became of them, and mails and what became of them.
+COLUMNS = "calls completed waiting withdrawn repeated refused mails taken dropped left".split()
 
 
 def books_of(server):
     """The numbers of the two lines that an ended server printed. They must add up."""
     status, output, errors = server.ended()
-    same((status, errors), (0, ""))
-    found = LINES.fullmatch(output)
-    holds(found, f"no books: {output!r}")
-    calls, completed, waiting, withdrawn, repeated, refused, mails, taken, dropped, left = map(int, found.groups())
-    same(calls, completed + waiting + withdrawn + repeated + refused, "calls")
-    same(mails, taken + dropped + left, "mails")
-    return dict(zip(("calls", "completed", "waiting", "withdrawn", "repeated", "refused", "mails", "taken", "dropped", "left"), map(int, found.groups())))
+    found = dict(zip(COLUMNS, map(int, re.findall(r"\d+", output))))
+    same((status, output, errors), (0, text(**found), ""), "the books")
+    for columns in (COLUMNS[:6], COLUMNS[6:]):
+        same(found[columns[0]], sum(found[it] for it in columns[1:]), columns[0])
+    return found
 
 
 def text(**numbers):
-    it = {key: numbers.get(key, 0) for key in ("calls", "completed", "waiting", "withdrawn", "repeated", "refused", "mails", "taken", "dropped", "left")}
-    first = " ".join(f"{key} {it[key]}" for key in ("calls", "completed", "waiting", "withdrawn", "repeated", "refused"))
-    return first + "\n" + " ".join(f"{key} {it[key]}" for key in ("mails", "taken", "dropped", "left")) + "\n"
+    row = [f"{it} {numbers.get(it, 0)}" for it in COLUMNS]
+    return f"{' '.join(row[:6])}\n{' '.join(row[6:])}\n"
 
 
 def each_column(place):

@@ -2,6 +2,7 @@
 that the machine itself does not change. FEMEM_CLEAN_ROOT can name the root of another Debian, such as one made by mmdebstrap.
 """
 
+import contextlib
 import os
 import random
 import re
@@ -10,7 +11,7 @@ import subprocess
 from pathlib import Path
 
 from . import wire
-from .harness import Served, Skipped, Wrong, same, until
+from .harness import Served, Skipped, Wrong, children_of, same, until
 
 STORE = "/var/lib/femem/femem.store"
 SOCKET = "/run/femem/femem.socket"
@@ -99,14 +100,10 @@ class Clean:
         """The first process of the namespaces, once it has become systemd."""
         if self.process.poll() is not None:
             raise Wrong(f"there is no clean Debian: {self.said('clean.err')}")
-        found = Path(f"/proc/{self.process.pid}/task/{self.process.pid}/children").read_text("ascii").split()
-        for it in found:
-            try:
-                with open(f"/proc/{it}/comm", encoding="ascii") as file:
-                    if file.read().strip() == "systemd":
-                        return int(it)
-            except (FileNotFoundError, ProcessLookupError):
-                pass
+        for it in children_of(self.process.pid):
+            with contextlib.suppress(FileNotFoundError, ProcessLookupError):
+                if Path(f"/proc/{it}/comm").read_text("ascii").strip() == "systemd":
+                    return it
         return None
 
     def said(self, name):

@@ -118,6 +118,18 @@ class Place:
         self.groups.clear()
 
 
+def ends(process, seconds):
+    """Waits for the end of a process: its status. The deadline is multiplied by the patience."""
+    try:
+        return process.wait(seconds * wire.patience)
+    except subprocess.TimeoutExpired:
+        raise Wrong(f"no end within {seconds * wire.patience} seconds: {process.args}") from None
+
+
+def children_of(pid):
+    return [int(it) for it in Path(f"/proc/{pid}/task/{pid}/children").read_text("ascii").split()]
+
+
 class Served:
     """A server at `socket`, as its clients see it. What starts it has its `process` and its `errors`."""
 
@@ -170,11 +182,7 @@ class Server(Served):
 
     def ended(self, seconds=30):
         """Waits for the server to end: its status, output and errors."""
-        seconds *= wire.patience
-        try:
-            self.process.wait(seconds)
-        except subprocess.TimeoutExpired:
-            raise Wrong(f"the server has not ended within {seconds} seconds") from None
+        ends(self.process, seconds)
         return self.process.returncode, self.output(), self.errors()
 
     def is_running(self):

@@ -13,10 +13,9 @@ import random
 import shutil
 import subprocess
 import time
-from pathlib import Path
 
 from . import kills
-from .harness import Served, Wrong, holds, same, until, within
+from .harness import Served, Wrong, children_of, ends, holds, same, until, within
 from .history import History
 
 PACKAGES = {
@@ -53,8 +52,7 @@ class Host:
         self.do("ip", "link", "set", "lo", "up")
 
     def child(self):
-        found = Path(f"/proc/{self.holder.pid}/task/{self.holder.pid}/children").read_text("ascii").split()
-        return int(found[0]) if found else None
+        return next(iter(children_of(self.holder.pid)), None)
 
     def inside(self, *words):
         return ["nsenter", f"--target={self.first}", "--mount", "--net", "--pid", "--", *words]
@@ -162,10 +160,7 @@ class Server(Served):
 
     def ends(self):
         """Waits until the server has ended by itself."""
-        try:
-            self.process.wait(60)
-        except subprocess.TimeoutExpired:
-            raise Wrong("the server has not ended") from None
+        ends(self.process, 60)
 
     def errors(self):
         return self.host.place.read(f"femem.{self.host.name}.err").decode()

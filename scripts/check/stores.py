@@ -3,7 +3,7 @@
 import random
 import struct
 
-from . import store
+from . import store, wire
 from .harness import Server, holds, same
 from .model import State
 from .store import GATE, IMAGE, JOURNAL, ONE, SLOT, TWO, device_of, put_slot, record_of
@@ -139,8 +139,6 @@ def open_by_serve(place):
         device = device_of(form, full_state(), [[("attached", 7, 1)]], 4)
         server = Server(place, f"f{form.number}", store=place.write(f"store{form.number}", bytes(device))).start()
         with server.attached(7) as conn:
-            from . import wire
-
             same(conn.ask(wire.call(2, WRITTEN[3])), ("answer", 2, ("done",)), "a kept answer")
             same(conn.ask(wire.call(5, ("access", 16, 1, 0, 0, False))), ("answer", 5, ("value", 42)))
             same(conn.ask(wire.call(6, ("create", b"a_name_of_more_than_16", 1, 1))), ("answer", 6, ("array", 3, 1)))

@@ -49,13 +49,17 @@ def copy_of(place):
     return top
 
 
+def with_toolchain(place):
+    """Such a repository, and the environment in which the stand-in is the toolchain."""
+    os.makedirs(place.path("bin"))
+    os.chmod(place.write("bin/rt", TOOLCHAIN.encode()), 0o755)
+    return copy_of(place), {"PATH": f"{place.path('bin')}:{os.environ['PATH']}", "SEEN": place.path("seen")}
+
+
 @within(120)
 def prove(place):
     """`make prove` hands the program's crates alone to the toolchain, and records what it made; it keeps nothing that is not proved"""
-    top = copy_of(place)
-    os.makedirs(place.path("bin"))
-    os.chmod(place.write("bin/rt", TOOLCHAIN.encode()), 0o755)
-    env = {"PATH": f"{place.path('bin')}:{os.environ['PATH']}", "SEEN": place.path("seen")}
+    top, env = with_toolchain(place)
     words = ["make", "-s", "-C", top, "prove"]
     made, kept = os.path.join(top, "out/proved/femem"), os.path.join(top, "out/proved/record")
     done(place, words, env={**env, "FAULT": "4 passed, 1 failed"}, status=2)
@@ -93,11 +97,8 @@ echo "${{SAYS-3 passed, 0 failed}}"
 @within(120)
 def adds_up(place):
     """`make test` adds up what its four parts say; one that ends with an error, or says nothing, has failed; only a run in which none has failed is recorded"""
-    top = copy_of(place)
-    os.makedirs(place.path("bin"))
-    os.chmod(place.write("bin/rt", TOOLCHAIN.encode()), 0o755)
+    top, env = with_toolchain(place)
     os.chmod(place.write("copy/scripts/check_programs", PROGRAMS.encode()), 0o755)
-    env = {"PATH": f"{place.path('bin')}:{os.environ['PATH']}", "SEEN": place.path("seen")}
     made = os.path.join(top, "out/proved/record")
     runs = (
         ({"STATUS": "1"}, "12 passed, 1 failed"), ({"FAULT": "4 passed, 1 failed"}, "11 passed, 1 failed"), ({"SAYS": ""}, "6 passed, 2 failed"),
