@@ -8,12 +8,11 @@ import shutil
 import signal
 import subprocess
 import sys
-import threading
 import time
 from pathlib import Path
 
 from . import model, rescues, store, wire
-from .crowds import adding
+from .crowds import adding, together
 from .harness import Held, Server, Skipped, holds, same, until, within
 from .looks import Load
 from .model import State
@@ -330,15 +329,7 @@ def not_allowed(place, server):
 def probed_at_once(place):
     """three probes at once, again and again: none takes another's session, and none fails"""
     server, said = Server(place).start(), []
-
-    def probes():
-        said.extend(ran(place, "probe", "--limit", "20", "--slow", "20", server.socket) for _ in range(15))
-
-    threads = [threading.Thread(target=probes) for _ in range(3)]
-    for it in threads:
-        it.start()
-    for it in threads:
-        it.join()
+    together(3, lambda _: said.extend(ran(place, "probe", "--limit", "20", "--slow", "20", server.socket) for _ in range(15)))
     same([it for it in said if it[0] != 0], [])
     same((len(said), server.looks().splitlines()), (45, ["place 90"]))
     server.stop()

@@ -6,7 +6,7 @@ import threading
 
 from . import wire
 from .crowds import TALK
-from .harness import holds, in_turn, preload, same, within
+from .harness import Worker, holds, in_turn, preload, same, within
 
 WELCOME = wire.framed(65, bytes(7) + b"\7" + bytes(7) + b"\1")
 GOODBYE = wire.framed(69, bytes(7) + b"\7")
@@ -87,14 +87,12 @@ class Other:
         """Runs `call` with these lines, against these answers: its status, output and errors, and what it sent."""
         came = []
         is_over = threading.Event()
-        thread = threading.Thread(target=self.serve, args=(answers, ends, came, is_over), daemon=True)
-        thread.start()
+        worker = Worker(self.serve, answers, ends, came, is_over)
         try:
             ran = place.run("call", "--socket", self.path, given=lines, **how)
         finally:
             is_over.set()
-            thread.join(20)
-        holds(not thread.is_alive(), "the connection was not ended")
+            worker.ended(20)
         return ran, b"".join(came)
 
     def serve(self, answers, ends, came, is_over):

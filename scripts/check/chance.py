@@ -1,13 +1,12 @@
 """Clients that do at random whatever the protocol allows, and the resulting history."""
 
 import random
-import threading
 import time
 from pathlib import Path
 
 from . import wire
 from .copies import copied
-from .harness import Server, holds, same, within
+from .harness import Server, Worker, holds, same, within
 from .history import History
 from .model import EMPTY, FULL
 
@@ -160,27 +159,17 @@ def histories(place):
     with server.attached(99) as conn:
         same(conn.ask(wire.call(1, ("create", b"shared", WORDS, 0)))[:2], ("answer", 1))
     clients = [Client(server, session, f"{place.options.seed} {session}") for session in range(CLIENTS)]
-    raised = []
-
-    def guarded(client):
-        try:
-            client.work(ends)
-        except Exception as error:
-            raised.append(error)
-
     ends = time.monotonic() + SECONDS
-    threads = [threading.Thread(target=guarded, args=(client,), daemon=True) for client in clients]
-    for thread in threads:
-        thread.start()
+    workers = [Worker(client.work, ends) for client in clients]
     history = History()
-    while any(thread.is_alive() for thread in threads):
+    while any(it.is_alive() for it in workers):
         # (often enough: at most one checkpoint begins between two readings)
         content = copied(server.store)
         if content:
             history.read(content)
         time.sleep(0.05)
-    if raised:
-        raise raised[0]
+    for it in workers:
+        it.ended()
     with server.connect() as conn:
         waiting = conn.ask(wire.report())[1]
     for client in clients:

@@ -1,30 +1,16 @@
 """Many clients, slow ones, and hostile ones."""
 
 import os
-import threading
 import time
 
 from . import store, wire
-from .harness import Held, Server, holds, same, until, within
+from .harness import Held, Server, Worker, holds, same, until, within
 
 
 def together(count, work):
     """Does the work in `count` threads at once, and raises what one of them raised."""
-    raised = []
-
-    def guarded(number):
-        try:
-            work(number)
-        except Exception as error:
-            raised.append(error)
-
-    threads = [threading.Thread(target=guarded, args=(number,), daemon=True) for number in range(count)]
-    for thread in threads:
-        thread.start()
-    for thread in threads:
-        thread.join()
-    if raised:
-        raise raised[0]
+    for worker in [Worker(work, number) for number in range(count)]:
+        worker.ended()
 
 
 def adding(array, index, operand):
@@ -353,14 +339,13 @@ def pipelines(place):
             while len(sent) < PIPELINED:
                 sent += messages(start)
                 start += 1
-            sender = threading.Thread(target=conn.send, args=(b"".join(sent),), daemon=True)
-            sender.start()
+            sender = Worker(conn.send, b"".join(sent))
             for at in range(len(sent)):
                 try:
                     conn.frame()
                 except wire.Ended as why:
                     holds(False, f"{name}: after {at} replies of {len(sent)}: {why}")
-            sender.join()
+            sender.ended()
             holds(conn.is_quiet(), f"{name}: more replies than messages")
     return f"{len(PIPELINES)} kinds"
 
@@ -373,8 +358,7 @@ def reads_slowly(place):
     with server.attached(1) as conn:
         conn.wait(60 * wire.patience)
         sent = b"".join(message for number in range(1, PIPELINED + 1) for message in calls_and_settles(number))
-        sender = threading.Thread(target=conn.send, args=(sent,), daemon=True)
-        sender.start()
+        sender = Worker(conn.send, sent)
         for _ in range(60):
             conn.got += conn.socket.recv(1024)
             time.sleep(0.05)
@@ -383,7 +367,7 @@ def reads_slowly(place):
         for number in range(1, PIPELINED + 1):
             same(conn.reply(), ("answer", number, ("value", number - 1)))
             same(conn.reply(), ("settled", number + 1))
-        sender.join()
+        sender.ended()
 
 
 BAD_FRAMES = (

@@ -8,6 +8,7 @@ import resource
 import shutil
 import signal
 import subprocess
+import threading
 import time
 from pathlib import Path
 
@@ -59,6 +60,27 @@ def until(condition, seconds, what):
         if time.monotonic() > end:
             raise Wrong(f"{what}: not within {seconds} seconds")
         time.sleep(0.002)
+
+
+class Worker(threading.Thread):
+    """A thread that works for a check. What it raises is raised by `ended`."""
+
+    def __init__(self, work, *given):
+        super().__init__(target=work, args=given, daemon=True)
+        self.raised = None
+        self.start()
+
+    def run(self):
+        try:
+            super().run()
+        except Exception as error:
+            self.raised = error
+
+    def ended(self, seconds=None):
+        self.join(seconds)
+        holds(not self.is_alive(), "a client does not come to an end")
+        if self.raised:
+            raise self.raised
 
 
 class Place:

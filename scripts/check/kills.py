@@ -2,12 +2,11 @@
 
 import os
 import random
-import threading
 import time
 from pathlib import Path
 
 from . import store, wire
-from .harness import Server, Wrong, holds, same, until, within
+from .harness import Server, Worker, Wrong, holds, same, until, within
 from .history import History
 from .model import State
 
@@ -232,7 +231,7 @@ class Load:
         self.is_ending = False
         self.left = 0
         self.answered = 0
-        self.raised = []
+        self.workers = []
 
     def allows(self, count=1):
         """Whether `count` more entries may be requested in this round."""
@@ -244,9 +243,7 @@ class Load:
     def begin(self):
         self.left = ENTRIES_A_ROUND
         self.answered = 0
-        self.threads = [threading.Thread(target=self.work, args=(client,), daemon=True) for client in self.clients]
-        for thread in self.threads:
-            thread.start()
+        self.workers = [Worker(self.work, client) for client in self.clients]
 
     def work(self, client):
         try:
@@ -254,14 +251,12 @@ class Load:
                 client.over(conn, self)
         except wire.Ended as why:
             if self.is_ending or "timed out" in str(why):
-                self.raised.append(Wrong(f"session {client.session}: {why}, with {client.open}"))
-        except Exception as error:
-            self.raised.append(error)
+                raise Wrong(f"session {client.session}: {why}, with {client.open}") from None
 
     def wait_for(self, condition, seconds):
         """Waits until the condition holds, for that many seconds at most."""
         ends = time.monotonic() + seconds
-        while not condition() and time.monotonic() < ends and not self.raised:
+        while not condition() and time.monotonic() < ends and not any(it.raised for it in self.workers):
             time.sleep(0.001)
 
     def wait_for_some(self, seconds):
@@ -278,11 +273,8 @@ class Load:
         time.sleep(random.uniform(0, 0.02))
 
     def join(self):
-        for thread in self.threads:
-            thread.join(40)
-            holds(not thread.is_alive(), "a client does not come to an end")
-        if self.raised:
-            raise self.raised[0]
+        for worker in self.workers:
+            worker.ended(40)
 
     def compare(self, history):
         """Compares the clients' replies with the history: each answer is kept, took effect once, and is to its request."""

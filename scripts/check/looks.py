@@ -2,12 +2,11 @@
 
 import collections
 import os
-import threading
 from pathlib import Path
 
 from . import store, wire
 from .crowds import adding
-from .harness import Server, holds, same, until, within
+from .harness import Server, Worker, holds, same, until, within
 from .model import State
 
 LOOKS = 1000
@@ -27,9 +26,9 @@ class Load:
         self.asked = 0
         self.answered = 0
         self.is_ending = False
-        self.raised = None
-        self.thread = threading.Thread(target=self.work, daemon=True)
-        self.thread.start()
+        self.worker = Worker(self.work)
+
+    raised = property(lambda self: self.worker.raised)
 
     def add(self, entry):
         self.state.apply(entry)
@@ -60,18 +59,15 @@ class Load:
             self.answered += 1
 
     def work(self):
-        try:
-            self.add(("attached", 7, 1))
-            with self.server.connect() as conn:
-                same(conn.ask(wire.attach(7)), ("welcome", 7, 1))
-                self.answered += 1
-                self.exchange(conn, [self.call(1, ("create", b"big", BIG, 1)), self.settle(2)])
-                number = 2
-                while not self.is_ending:
-                    self.exchange(conn, self.round(number))
-                    number += CALLS
-        except Exception as error:
-            self.raised = error
+        self.add(("attached", 7, 1))
+        with self.server.connect() as conn:
+            same(conn.ask(wire.attach(7)), ("welcome", 7, 1))
+            self.answered += 1
+            self.exchange(conn, [self.call(1, ("create", b"big", BIG, 1)), self.settle(2)])
+            number = 2
+            while not self.is_ending:
+                self.exchange(conn, self.round(number))
+                number += CALLS
 
     def at(self, place, answered, what):
         """The state at a place that was shown now. It has all that was answered before, and nothing that was not asked for; places never fall."""
@@ -83,9 +79,7 @@ class Load:
 
     def end(self):
         self.is_ending = True
-        self.thread.join(60)
-        if self.raised:
-            raise self.raised
+        self.worker.ended(60)
 
 
 def generation(path):

@@ -7,12 +7,11 @@ import random
 import shutil
 import struct
 import subprocess
-import threading
 from collections import namedtuple
 
 from . import store, wire
 from .crowds import adding
-from .harness import Server, Skipped, Wrong, holds, preload, same, within
+from .harness import Server, Skipped, Worker, Wrong, holds, preload, same, within
 from .model import State
 from .store import AREA, GATE, IMAGE, JOURNAL, ONE, SLOT, TWO, image_of, record_of
 
@@ -522,33 +521,16 @@ def migrated_by_a_name(place):
     as_said(of_file(calls, "s.store"), compared(wanted, relied(0, len(image_of(state, ONE)), 5 + 64)))
 
 
-class Asker(threading.Thread):
+def asks(server, session, asked):
     """A client that sends windows of requests, and notes its request under each number."""
-
-    def __init__(self, server, session, asked):
-        super().__init__(daemon=True)
-        self.server = server
-        self.session = session
-        self.asked = asked
-        self.raised = None
-        self.start()
-
-    def run(self):
-        try:
-            with self.server.attached(self.session) as conn:
-                for first in range(1, 32 * 12, 32):
-                    self.window(conn, first)
-                same(conn.ask(wire.bye()), ("goodbye", self.session))
-        except Exception as error:
-            self.raised = error
-
-    def window(self, conn, first):
-        for number in range(first, first + 32):
-            self.asked[self.session, number] = adding(1, number % 3, 1)
-        conn.send(b"".join(wire.call(number, self.asked[self.session, number]) for number in range(first, first + 32)))
-        for number in range(first, first + 32):
-            same(conn.reply()[:2], ("answer", number))
-        same(conn.ask(wire.settle(first + 32)), ("settled", first + 32))
+    with server.attached(session) as conn:
+        for first in range(1, 32 * 12, 32):
+            numbers = range(first, first + 32)
+            asked.update({(session, number): adding(1, number % 3, 1) for number in numbers})
+            conn.send(b"".join(wire.call(number, asked[session, number]) for number in numbers))
+            same([conn.reply()[:2] for _ in numbers], [("answer", number) for number in numbers])
+            same(conn.ask(wire.settle(first + 32)), ("settled", first + 32))
+        same(conn.ask(wire.bye()), ("goodbye", session))
 
 
 @within(120)
@@ -558,12 +540,8 @@ def replies_wait(place):
     server = Server(place, store=place.write("s.store", bytes(base)), format=False)
     server.start({"LD_PRELOAD": preload(place, "record.c"), "RECORD": place.path("record")})
     asked = {}
-    clients = [Asker(server, session, asked) for session in range(1, 9)]
-    for client in clients:
-        client.join(200)
-        holds(not client.is_alive(), "a client does not come to an end")
-        if client.raised:
-            raise client.raised
+    for client in [Worker(asks, server, session, asked) for session in range(1, 9)]:
+        client.ended(200)
     server.stop()
     calls = calls_of(place.path("record"))
     count = left_in_time(calls, "s.store", base, asked)

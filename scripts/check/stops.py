@@ -6,13 +6,12 @@ points these are is decided by the number of commits, so that with N = 12 nine c
 import os
 import random
 import subprocess
-import threading
 import time
 
 from . import faults, store, wire
 from .crowds import adding
 from .faults import Client, fills_and_others, is_change
-from .harness import holds, same, within
+from .harness import Worker, holds, same, within
 from .model import State
 
 
@@ -59,13 +58,11 @@ class Trial(faults.Trial):
         server = self.started()
         # (after the kill it should not try to connect for long)
         client = Client(server, self.work, seconds=1)
-        worker = threading.Thread(target=client.attempt, daemon=True)
-        worker.start()
+        worker = Worker(client.attempt)
         time.sleep(seconds)
         server.process.kill()
         server.process.wait(30 * wire.patience)
-        worker.join(60)
-        holds(not worker.is_alive(), "a client does not come to an end")
+        worker.ended(60)
         client.seconds = 10
         self.goes_on(server, client, f"killed behind {seconds:.4f} seconds")
 
