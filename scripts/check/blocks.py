@@ -18,7 +18,7 @@ BLOCKS = {
         ("# clause: Decoder::feed reads", "blocks.planted_edit"),
     ),
     "ARCHITECTURE.md": (("femem ", "places.layers"),),
-    "docs/cli.md": (("make -C clients/cli", "deb_pages.pages"), ("femem-cli counter hits", "deb_pages.pages"), ("1\n42", "deb_pages.pages")),
+    "docs/cli.md": tuple((first, "deb_pages.pages") for first in ("make -C clients/cli", "femem-cli counter hits", "1\n42")),
     "docs/commands.md": (
         ("femem serve --settings FILE", "manuals.synopsis"), ("printf 'attach 7", "blocks.example_of_commands"),
         ("welcome 7 1", "blocks.example_of_commands"),

@@ -212,7 +212,8 @@ def server_ends(place):
     with Other(place) as other:
         for before, count in itertools.product((0, 1), range(len(WELCOME))):
             found = other.talk(place, b"attach 7\n" * 3, WELCOME * before + WELCOME[:count], ends=True)
-            same(found, ((4, b"welcome 7 1\n" * before, b"femem: socket\n"), wire.attach(7) * (before + 1)), f"{before} replies, {count} bytes")
+            wanted = ((4, b"welcome 7 1\n" * before, b"femem: socket\n"), wire.attach(7) * (before + 1))
+            same(found, wanted, f"{before} replies, {count} bytes")
     return f"{count + 1} lengths"
 
 
@@ -274,7 +275,8 @@ def memory_refused(place):
     """each allocation is refused in turn: `femem: memory`, or the same as with enough memory; what was sent and printed is a prefix"""
     library, last = preload(place, "../refuse.c"), 0
     with Other(place) as other:
-        for number, found in in_turn(place, lambda more: other.talk(place, FIRST_PATH, b"".join(REPLIES), env={"LD_PRELOAD": library, **more})):
+        ask = lambda more: other.talk(place, FIRST_PATH, b"".join(REPLIES), env={"LD_PRELOAD": library, **more})
+        for number, found in in_turn(place, ask):
             ran, sent = found
             if number and ran != (0, PRINTED, b""):
                 same(ran[::2], (3, b"femem: memory\n"), f"allocation {number} refused")

@@ -312,7 +312,8 @@ def batches():
 def checkpoints():
     case("largest_checkpoint")
     most()
-    ran("keeper", ["begin", "begin", *SLICES, "finish", "finish"], "told yn" + "yyyy" * 3 + "nyn", "holds place 5 used 245 format Two")
+    made = ["begin", "begin", *SLICES, "finish", "finish"]
+    ran("keeper", made, "told yn" + "yyyy" * 3 + "nyn", "holds place 5 used 245 format Two")
     say("reads 2101256 8:2", "reads 2101264 000900b1", "reads 3153920 01 4:240", "reads 3154165 00", f"image {spell(after(attached(), MOST, *[attached()] * 3))}")
     case("whole_checkpoint_for_a_batch")
     many = "append $attached*4000"

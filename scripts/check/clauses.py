@@ -86,7 +86,8 @@ def cited(_place):
             count += 1 + len(names)
             missing += [f"{where}: {crate} has no {path} {it}" for it in names if not has(crate, path, it)]
             # (a path may also name a type, which has no clauses)
-            missing += [] if names or is_function(crate, path) or has_type(crate, f"{path}::it") else [f"{where}: {crate} has no {path}"]
+            known = names or is_function(crate, path) or has_type(crate, f"{path}::it")
+            missing += [] if known else [f"{where}: {crate} has no {path}"]
     return told(missing, count, 50, "functions and clauses")
 
 

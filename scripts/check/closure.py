@@ -50,7 +50,8 @@ class Module:
 @functools.cache
 def modules():
     """The files of specs/ of all crates, by their module's name."""
-    return {it[len("crates/") : -len(".antt")].replace("/", "."): Module(text_of(it).split("\n")) for it in matching("crates/*/specs/**/*.antt")}
+    names = {it.removesuffix(".antt").replace("/", "."): it for it in matching("crates/*/specs/**/*.antt")}
+    return {name.removeprefix("crates."): Module(text_of(it).split("\n")) for name, it in names.items()}
 
 
 def meant(module, word):

@@ -116,7 +116,7 @@ def all_wait_for_room(place):
 
 
 def fill_up(server, held, conns, each):
-    """While a sync of the server is held, each connection sends so many attaches of its session, and nothing is done with more of them."""
+    """While a sync of the server is held, each connection sends so many attaches of its session, until no more are handled."""
     held.next()
     conns[0].send(wire.attach(0))
     held.wait()

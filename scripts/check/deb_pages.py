@@ -87,7 +87,8 @@ def by_hand(clean, unit, serves):
     clean.do("systemctl", "stop", "femem")
     check, note = (f"runuser -u femem -- sh -c '{it}'" for it in block(OPERATING, "femem-store check").splitlines())
     ended = f"kill $(pidof femem); while pidof femem > /dev/null; do sleep 0.05; done; rm {SOCKET}"
-    clean.shell(f"install -d -o femem -g femem /run/femem; cd /; {check} > /dev/null 2>&1 & until [ -S {SOCKET} ]; do sleep 0.05; done; {serves}; {ended}")
+    begun = f"install -d -o femem -g femem /run/femem; cd /; {check} > /dev/null 2>&1 & until [ -S {SOCKET} ]; do sleep 0.05; done"
+    clean.shell(f"{begun}; {serves}; {ended}")
     known = clean.shell(f"cd /; {note}; cat {STORE}.place")
     holds(clean.do("femem", "look", "--store", STORE).startswith(known), f"the last known place: {known}")
     clean.do("systemctl", "start", "femem")

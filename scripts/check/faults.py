@@ -83,7 +83,7 @@ def fills_and_others(calls, tried=lambda call: True):
 
 
 class Trial:
-    """A store, which a server makes if there is no base, and one client's work over it, in which one call after another ends the server."""
+    """A store, which a server makes if there is no base, and one client's work over it, in which a call ends the server."""
 
     def __init__(self, place, base, work, formats):
         self.place, self.base, self.work, self.formats = place, base, work, formats
@@ -277,7 +277,8 @@ def memory_refused(place):
         holds(client.answers == wanted[: len(client.answers)], f"{name}: {client.answers}")
         if has_ended:
             status, output, errors = server.ended()
-            holds((status, output) == (3, "") and errors in ("femem: memory\n", "femem: store device\n") and number, f"{name}: status {status}, {errors!r}")
+            is_told = errors in ("femem: memory\n", "femem: store device\n") and number is not None
+            holds((status, output) == (3, "") and is_told, f"{name}: status {status}, {errors!r}")
         else:
             same(client.answers, wanted, name)
             server.stop()
@@ -324,7 +325,8 @@ def little_memory(place):
     """a server with little memory: each connection is served or closed, and the server goes on or ends with `femem: memory`"""
     told = {}
     for megabytes in (8, 16, 24, 32, 48, 64, 96, 128):
-        server = Server(place, f"{megabytes}", connections=256).start(waits=False, limit=(resource.RLIMIT_AS, megabytes << 20)).begins()
+        server = Server(place, f"{megabytes}", connections=256)
+        server.start(waits=False, limit=(resource.RLIMIT_AS, megabytes << 20)).begins()
         conns = [open_or_none(server, number) for number in range(100 * server.is_running())]
         served = sum(conn is not None for conn in conns)
         for conn in filter(None, conns):

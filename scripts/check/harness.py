@@ -341,8 +341,8 @@ def preload(place, source):
 
 
 def in_turn(place, ask, number="REFUSE", mark="REFUSED"):
-    """What `ask` gives with the variables by which a preload refuses the allocation, or fails the call, of a number: of 1, 2 and so on,
-    each with its number, and last of one that is not reached, with None."""
+    """What `ask` gives with the variables by which a preload refuses the allocation, or fails the call, of a number: of 1, 2 and so
+    on, each with its number, and last of one that is not reached, with None."""
     kept = place.path("mark")
     for at in itertools.count(1):
         found = ask({number: str(at), mark: kept})

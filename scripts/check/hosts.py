@@ -265,8 +265,8 @@ def taken_over(place):
 
 @contextlib.contextmanager
 def loaded(place, least, confirmed=2):
-    """A pair and its crew, over a mirror that confirms what so many disks have, after at least so many answers. What the other host no
-    longer lends is confirmed by one."""
+    """A pair and its crew, over a mirror that confirms what so many disks have, after at least so many answers. Where one is enough,
+    the other host does not lend its own."""
     with Pair(place) as pair:
         crew = Crew(begun(pair, confirmed))
         if confirmed == 1:

@@ -185,7 +185,8 @@ def one_version(_place):
 def text_with(place, name, changelog):
     """A repository of the sources that name the version, with another CHANGELOG.md, committed. Returns its path, and what runs git."""
     top = place.path(name)
-    for path in (*(it for it, _ in (*versions.SOURCES, *versions.PYTHON_SOURCES)), "scripts/version", "scripts/release/versions.py", "scripts/release/__init__.py"):
+    sources = [it for it, _ in (*versions.SOURCES, *versions.PYTHON_SOURCES)]
+    for path in (*sources, "scripts/version", "scripts/release/versions.py", "scripts/release/__init__.py"):
         os.makedirs(os.path.dirname(os.path.join(top, path)), exist_ok=True)
         shutil.copy(os.path.join(TOP, path), os.path.join(top, path))
     Path(os.path.join(top, "CHANGELOG.md")).write_text(changelog, "utf-8")

@@ -301,7 +301,7 @@ def make_arrays(server):
 
 
 class Crew:
-    """Clients over the lives of a server, in which they make their arrays first, and its history. Each pair has a word, and a window."""
+    """Clients over the lives of a server, whose arrays are made first, and its history. Each pair has a word, and a window."""
 
     def __init__(self, server, windows, others):
         make_arrays(server)

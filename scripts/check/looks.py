@@ -70,7 +70,7 @@ class Load:
                 number += CALLS
 
     def at(self, place, answered, what):
-        """The state at a place that was shown now. It has all that was answered before, and nothing that was not asked for; places never fall."""
+        """The state at a place that was shown now: it has all that was answered before, and nothing that was not asked for."""
         last, asked = self.known.place, self.asked
         holds(max(answered, last) <= place <= asked, f"{what}: place {place}, after {last}; {answered} were answered, {asked} asked")
         while self.known.place < place:

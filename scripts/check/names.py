@@ -57,7 +57,8 @@ def definitions(_place):
             path = f"crates/{crate}/specs/{file}.antt"
             text, named = text_of(path) if exists(path) else "", NAME.findall(names)
             count += len(named)
-            missing += [f"{where}: {path} does not define {it}" for it in named if not re.search(rf"^(?:{KINDS_OF_DEFINITION} )*{it}\b", text, re.M)]
+            lost = [it for it in named if not re.search(rf"^(?:{KINDS_OF_DEFINITION} )*{it}\b", text, re.M)]
+            missing += [f"{where}: {path} does not define {it}" for it in lost]
     return told(missing, count, 70, "definitions")
 
 

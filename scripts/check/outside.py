@@ -1,5 +1,5 @@
-"""What runs outside the gate still works: the benches, on so little work that their figures mean nothing. And the gate runs all checks that
-there are."""
+"""What runs outside the gate still works: the benches, on so little work that their figures mean nothing. And the gate runs all checks
+that there are."""
 
 import json
 import os

@@ -171,10 +171,12 @@ CHANGE(fsync, (int file), (file), named(file), "fsync %s", named(file))
 CHANGE(fdatasync, (int file), (file), named(file), "fdatasync %s", named(file))
 CHANGE(ftruncate, (int file, off_t size), (file, size), named(file), "ftruncate %s %ld", named(file), (long)size)
 CHANGE(fchmod, (int file, mode_t mode), (file, mode), named(file), "fchmod %s %o", named(file), mode)
-CHANGE(link, (const char *old, const char *made), (old, made), within(old) && within(made), "link %s %s", within(old), within(made))
+CHANGE(link, (const char *old, const char *made), (old, made),
+       within(old) && within(made), "link %s %s", within(old), within(made))
 CHANGE(linkat, (int at, const char *old, int to_at, const char *made, int flags), (at, old, to_at, made, flags),
        within(old) && within(made), "link %s %s", within(old), within(made))
-CHANGE(rename, (const char *old, const char *made), (old, made), within(old) && within(made), "rename %s %s", within(old), within(made))
+CHANGE(rename, (const char *old, const char *made), (old, made),
+       within(old) && within(made), "rename %s %s", within(old), within(made))
 CHANGE(unlink, (const char *path), (path), within(path), "unlink %s", within(path))
 
 /* How many bytes such a write writes. */
@@ -192,7 +194,8 @@ static size_t of(char way, size_t size) { return way == 'h' || way == 's' ? size
   }
 
 WRITES(write, (int file, const void *from, size_t size), (file, from, of(way, size)), "write %s %zd", named(file))
-WRITES(pwrite, (int file, const void *from, size_t size, off_t at), (file, from, of(way, size), at), "pwrite %s %ld %zd", named(file), (long)at)
+WRITES(pwrite, (int file, const void *from, size_t size, off_t at), (file, from, of(way, size), at),
+       "pwrite %s %ld %zd", named(file), (long)at)
 ssize_t pwrite64(int file, const void *from, size_t size, off_t at) SAME_AS("pwrite");
 
 /* A call that changes nothing, noted in that form if `mine` holds. */
@@ -207,7 +210,8 @@ ssize_t pwrite64(int file, const void *from, size_t size, off_t at) SAME_AS("pwr
 /* (the end of an open file is its size) */
 NOTED(off_t, lseek, (int file, off_t to, int from), (file, to, from), named(file), "lseek %s", named(file))
 NOTED(int, flock, (int file, int kind), (file, kind), named(file), "flock %s %d", named(file), kind)
-NOTED(ssize_t, pread, (int file, void *to, size_t size, off_t at), (file, to, size, at), named(file), "pread %s %ld %zu", named(file), (long)at, size)
+NOTED(ssize_t, pread, (int file, void *to, size_t size, off_t at), (file, to, size, at),
+      named(file), "pread %s %ld %zu", named(file), (long)at, size)
 NOTED(int, statx, (int at, const char *path, int flags, unsigned mask, struct statx *to), (at, path, flags, mask, to),
       *path ? within(path) : named(at), "%s %s", *path ? "stat" : "fstat", *path ? within(path) : named(at))
 ssize_t pread64(int file, void *to, size_t size, off_t at) SAME_AS("pread");

@@ -185,8 +185,8 @@ def shown(call):
 
 
 class Frames:
-    """The frames that calls of a kind take or send, in a record, each at the call with its last byte, with its connection's session: the
-    number in the last frame of the kind `begins`."""
+    """The frames that calls of a kind take or send, in a record, each at the call with its last byte, with its connection's session:
+    the number in the last frame of the kind `begins`."""
 
     def __init__(self, call, begins):
         self.call, self.begins = call, begins
@@ -465,8 +465,8 @@ def is_in_time(calls, device, asked, kept=()):
 
 
 def over_a_checkpoint(place, form, count, generation, is_open, base, work):
-    """Serves a store of 20,000 words whose journal, in slot 1, has two groups of so many records: with two more a checkpoint is due, which
-    closes the other slot if its gate is open. The calls must be the table's. Returns them, and the entries."""
+    """Serves a store of 20,000 words whose journal, in slot 1, has two groups of so many records: with two more a checkpoint is due,
+    which closes the other slot if its gate is open. The calls must be the table's. Returns them, and the entries."""
     calls, answers = recorded(place, base, work, format=False)
     same(answers, [("value", number) for number in range(len(work))])
     entries, now = [ATTACHED, *finished(work, answers)], store.read_store(base)[2]

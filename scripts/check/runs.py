@@ -350,7 +350,8 @@ def refuse_each(place):
                 named += 1
                 holds(ran[::2] == wanted[::2] and is_refused(output, ran[1]), what)
                 holds(name not in NO_MEMORY or ran[1].removeprefix(b"c1 welcome 7 1\n") in NO_MEMORY[name], what)
-        holds((tried > 50 or not output) and (named or name not in NO_MEMORY), f"{name}: {tried} allocations, {named} told no-memory")
+        is_enough = (tried > 50 or not output) and (named or name not in NO_MEMORY)
+        holds(is_enough, f"{name}: {tried} allocations, {named} told no-memory")
         told.append(f"{name} {tried}")
     return ", ".join(told)
 

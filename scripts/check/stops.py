@@ -131,16 +131,24 @@ def killed(name, says, made):
 
 
 NINE, NAMED = [adding(1, 19999, 1)] * 9, [adding(1, 0, 1), ("find", b"seventeen_letters"), adding(1, 0, 1)]
-making = killed("making", "a server is killed while it makes its store: the next start opens it, with every answer", lambda: (None, WORK, True))
-formatting = killed("formatting", "the same while it formats a file of zeros; no copy of it is left", lambda: (bytes(store.SIZE), WORK, True))
+making = killed(
+    "making", "a server is killed while it makes its store: the next start opens it, with every answer", lambda: (None, WORK, True),
+)
+formatting = killed(
+    "formatting", "the same while it formats a file of zeros; no copy of it is left", lambda: (bytes(store.SIZE), WORK, True),
+)
 keeping = killed(
     "keeping", "the same while it formats a former store; a whole copy of that is left",
     lambda: (kept_before(), WORK, True, [("store.before-format", kept_before())]),
 )
-checkpointing = killed("checkpointing", "the same while it makes a checkpoint between groups", lambda: (faults.near_a_checkpoint(), NINE, False))
+checkpointing = killed(
+    "checkpointing", "the same while it makes a checkpoint between groups", lambda: (faults.near_a_checkpoint(), NINE, False),
+)
 migrating = killed(
-    "migrating", "the same while a checkpoint between groups moves the store from format 1 to format 2", lambda: (of_format_1(4095), NINE, False),
+    "migrating", "the same while a checkpoint between groups moves the store from format 1 to format 2",
+    lambda: (of_format_1(4095), NINE, False),
 )
 migrating_by_a_name = killed(
-    "migrating_by_a_name", "the same while it is moved because of a name that has no record in format 1", lambda: (of_format_1(10), NAMED, False),
+    "migrating_by_a_name", "the same while it is moved because of a name that has no record in format 1",
+    lambda: (of_format_1(10), NAMED, False),
 )

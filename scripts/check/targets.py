@@ -1,5 +1,5 @@
-"""The Makefile's targets that no other part runs: `make prove`, `make deb`, `make serve`; and what `make run` and `make test` say of a
-machine that lacks something."""
+"""The Makefile's targets that no other part runs: `make prove`, `make deb`, `make serve`; and what `make run` and `make test` say of
+a machine that lacks something."""
 
 import os
 import re

@@ -23,7 +23,7 @@ MADE = re.compile(r"out/|PREFIX/|PATH\.")
 
 def matching(*patterns):
     """The files that patterns name, by their paths from the top, in order."""
-    return sorted(os.path.relpath(it, TOP) for pattern in patterns for it in glob.glob(os.path.join(TOP, pattern), recursive=True))
+    return sorted(it for pattern in patterns for it in glob.glob(pattern, root_dir=TOP, recursive=True))
 
 
 def split(text):

@@ -6,7 +6,10 @@ from .harness import Wrong, checks_in, same
 from .owned import C_PAGE, CLI, FORMATS, OPERATING, PATTERNS, PY_PAGE, SESSION, TOOL, WORK
 from .texts import text_of
 
-CHECKS_OF_PAGES = (fields.codes, fields.frames, fields.bounds, fields.told_again, facts.exchange, facts.definitions, facts.unit, sessions.tables, *checks_in(headers), places.packages)
+CHECKS_OF_PAGES = (
+    fields.codes, fields.frames, fields.bounds, fields.told_again, facts.exchange, facts.definitions, facts.unit, sessions.tables,
+    *checks_in(headers), places.packages,
+)
 # A page, what it says, and what it says then.
 SENTENCES = (
     ("README.md", "#operations) are eight.", "#operations) are seven."),
