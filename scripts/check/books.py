@@ -143,8 +143,8 @@ def attached_or_none(server):
 
 
 def streams_end(place):
-    """a client that sends a byte at a time, one that shuts its sending side, one that sends no valid frame: what came before is done"""
-    server = Server(place, accepts=3).start()
+    """a client that sends a byte at a time, one that shuts its sending side, one that does so within a frame, one that sends no valid frame: what came before is done"""
+    server = Server(place, accepts=4).start()
     look = lambda number, index: wire.call(number, ("access", 18, 1, index, 0, False))
     with server.attached(7) as slow:
         for frame, answer in (
@@ -161,6 +161,10 @@ def streams_end(place):
         half.send(wire.call(2, ("access", 19, 1, 1, 9, False)) + wire.call(3, ("access", 16, 1, 0, 0, False)))
         half.finish()
         until(half.has_ended, 20, "the server ends a connection that was shut")
+    with server.connect() as cut:
+        cut.send(wire.attach(7)[:6])
+        cut.finish()
+        holds(cut.has_ended(), "the server kept a connection that ended within a frame")
     with server.attached(9) as bad:
         same(bad.ask(look(1, 1)), ("answer", 1, ("value", 9)))
         bad.send(bytes(4))

@@ -17,9 +17,9 @@ def adding(array, index, operand):
     return ("access", 23, array, index, operand, False)
 
 
-def made(server, *arrays):
-    """Makes arrays (name, length, full) in a separate session, 1000."""
-    with server.attached(1000) as conn:
+def made(server, *arrays, session=1000):
+    """Makes arrays (name, length, full) in a separate session."""
+    with server.attached(session) as conn:
         for number, (name, length, full) in enumerate(arrays, 1):
             same(conn.ask(wire.call(number, ("create", name, length, full))), ("answer", number, ("array", number, length)))
 
@@ -248,28 +248,6 @@ def bytes_of_frames(place):
                 same(conn.piece(len(reply)), reply, frame)
             holds(conn.is_quiet(), "more came than the replies")
         server.stop()
-
-
-def half_closed(place):
-    """a client that shuts its sending side: what it sent before is done, its session is free and the server goes on"""
-    server = Server(place).start()
-    made(server, (b"cells", 2, 0))
-    with server.connect() as conn:
-        conn.send(wire.attach(7) + wire.call(1, adding(9, 0, 1)) + wire.call(2, ("access", 16, 1, 0, 0, False)))
-        same([conn.reply(), conn.reply()], [("welcome", 7, 1), ("answer", 1, ("no-array",))])
-        conn.finish()
-        with server.attached(8) as other:
-            # (its waiting request is withdrawn)
-            until(lambda: other.ask(wire.report()) == ("report", "waiting 0\n"), 10, "the waiting request was withdrawn")
-        holds(conn.has_ended(), "the server kept a connection whose stream ended")
-    with server.connect() as conn:
-        conn.send(wire.attach(7)[:6])
-        conn.finish()
-        holds(conn.has_ended(), "the server kept a connection that ended within a frame")
-    with server.attached(7) as conn:
-        same(conn.ask(wire.call(1, adding(9, 0, 1))), ("answer", 1, ("no-array",)))
-    server.stop()
-    holds("session 7 floor 1 kept 1\n" in server.looks(), "what was sent before the end of the stream was not done")
 
 
 @within(180)

@@ -6,6 +6,7 @@ import time
 from pathlib import Path
 
 from . import store, wire
+from .crowds import made
 from .harness import Server, Worker, Wrong, holds, same, until, within
 from .history import History
 from .model import State
@@ -294,17 +295,11 @@ def asked_for(history, load):
             holds(request in sent.get(key, ()), f"{request} under {key} was never asked for")
 
 
-def make_arrays(server):
-    with server.attached(SETTER) as conn:
-        for number, (name, length, full) in enumerate(((b"counters", 3, 1), (b"hands", 3, 0), (b"big", 30000, 1)), 1):
-            same(conn.ask(wire.call(number, ("create", name, length, full))), ("answer", number, ("array", number, length)))
-
-
 class Crew:
     """Clients over the lives of a server, whose arrays are made first, and its history. Each pair has a word, and a window."""
 
     def __init__(self, server, windows, others):
-        make_arrays(server)
+        made(server, (b"counters", 3, 1), (b"hands", 3, 0), (b"big", 30000, 1), session=SETTER)
         self.adders = [Adder(session, session % 3) for session in range(1, 5)]
         self.pairs = [(Hand(10 + k, k, window, FILL), Hand(20 + k, k, window, EMPTY)) for k, window in enumerate(windows)]
         self.all = [*self.adders, *(it for pair in self.pairs for it in pair), *others]
