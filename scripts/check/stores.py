@@ -151,21 +151,6 @@ def open_by_serve(place):
         holds(store.slots_of(place.read(f"store{form.number}"))[0].format is TWO, "a long name moved the store to format 2")
 
 
-def near_the_end(place):
-    """a history with one place left: one attach is done, and whatever would need another place is refused, by name and by code"""
-    state = State()
-    state.place = 9223372036854773758
-    server = Server(place, store=place.write("store", bytes(device_of(TWO, state))), format=False).start()
-    given = b"attach 7\nsettle 1\nattach 7\nbye\n1 find a\nreport\n"
-    told = b"welcome 7 1\nrefused 1 spent\nrefused 7 spent\nrefused 0 spent\nrefused 1 spent\nwaiting 0\n"
-    same(place.run("call", "--socket", server.socket, given=given), (0, told, b""))
-    with server.connect() as conn:
-        conn.send(b"\0\0\0\x09\x01\0\0\0\0\0\0\0\x07")
-        same(conn.piece(14), b"\0\0\0\x0a\x46\0\0\0\0\0\0\0\x07\x09")
-    server.stop()
-    same(server.looks(), "place 9223372036854773759\nsession 7 floor 1 kept 0\n")
-
-
 def random_changes(place):
     """for correct stores with bytes changed at random, `look` reports what this check's own reader reports"""
     count = 150
