@@ -9,13 +9,13 @@ import signal
 import subprocess
 import sys
 import time
-from pathlib import Path
 
 from . import model, rescues, store, wire
-from .crowds import adding, together
+from .crowds import together
 from .harness import Held, Server, Skipped, holds, same, until, within
 from .looks import Load
 from .model import State
+from .rescues import filled
 from .store import ONE, TWO
 from .storetool import FOLDER, PATIENT, TOOL, backup, copied, files, layout, ran, state, sum_of, words_of
 
@@ -168,22 +168,6 @@ def strace(place, options, *words):
     if shutil.which("strace") is None:
         raise Skipped("there is no strace")
     return ran(place, *words, before=["strace", "-f", "-qq", "-o", place.path("trace"), *options])
-
-
-def filled(place, name="s", rounds=60):
-    """A stopped server whose store has groups behind a checkpoint, with its store's bytes."""
-    server = Server(place, name).start()
-    with server.attached(7) as conn:
-        conn.ask(wire.call(1, ("create", b"cells", 4096, 1)))
-        number = 2
-        for _ in range(rounds):
-            conn.send(b"".join(wire.call(number + k, adding(1, k, 1)) for k in range(24)))
-            for _ in range(24):
-                conn.reply()
-            number += 24
-            conn.ask(wire.settle(number))
-    server.stop()
-    return server, Path(server.store).read_bytes()
 
 
 def restored(place):

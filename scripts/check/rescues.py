@@ -19,21 +19,26 @@ def changed(content, at, *values):
     return content[:at] + bytes(values) + content[at + len(values) :]
 
 
-def busy(place):
-    """The bytes of a store with a checkpoint behind it, of place 7,263, and of 6,569 in the older slot: a few hundred words were added to."""
-    server = Server(place, "busy").start()
+def filled(place, name="s", words=4096, rounds=60, adds=lambda _step: [adding(1, it, 1) for it in range(24)]):
+    """A stopped server whose store has groups behind a checkpoint, of rounds of additions, with its store's bytes."""
+    server = Server(place, name).start()
     with server.attached(7) as conn:
-        conn.ask(wire.call(1, ("create", b"cells", 3000, 1)) )
+        conn.ask(wire.call(1, ("create", b"cells", words, 1)))
         conn.ask(wire.settle(2))
         number = 2
-        for step in range(ROUNDS):
-            conn.send(b"".join(wire.call(number + it, adding(1, (step * 31 + it) % 3000, step)) for it in range(32)))
-            for _ in range(32):
+        for made in map(adds, range(rounds)):
+            conn.send(b"".join(wire.call(number + it, request) for it, request in enumerate(made)))
+            for _ in made:
                 conn.reply()
-            number += 32
+            number += len(made)
             conn.ask(wire.settle(number))
     server.stop()
-    return Path(server.store).read_bytes()
+    return server, Path(server.store).read_bytes()
+
+
+def busy(place):
+    """The bytes of a store with a checkpoint behind it, of place 7,263, and of 6,569 in the older slot: a few hundred words were added to."""
+    return filled(place, "busy", 3000, ROUNDS, lambda step: [adding(1, (step * 31 + it) % 3000, step) for it in range(32)])[1]
 
 
 @contextlib.contextmanager
