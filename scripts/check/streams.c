@@ -89,17 +89,13 @@ ssize_t send(int file, const void *bytes, size_t size, int flags) {
   return is_broken("send") || fails("send") ? -1 : real(file, bytes, shorter("send", size), flags);
 }
 
-int fdatasync(int file) {
-  REAL(fdatasync);
-  return fails("fdatasync") ? -1 : real(file);
-}
+/* A call that is only held or failed. */
+#define HELD(call, parameters, given) \
+  int call parameters { \
+    REAL(call); \
+    return fails(#call) ? -1 : real given; \
+  }
 
-int flock(int file, int how) {
-  REAL(flock);
-  return fails("flock") ? -1 : real(file, how);
-}
-
-int listen(int file, int waiting) {
-  REAL(listen);
-  return fails("listen") ? -1 : real(file, waiting);
-}
+HELD(fdatasync, (int file), (file))
+HELD(flock, (int file, int how), (file, how))
+HELD(listen, (int file, int waiting), (file, waiting))
