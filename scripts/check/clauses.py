@@ -1,11 +1,12 @@
-"""The functions, laws and clauses that documents cite are in the crates that they cite."""
+"""The functions, laws and clauses that documents cite are in the crates that they cite; the tests that proved.md names are there."""
 
 import os
 import re
 
 from .sources import contracts_of, has, has_type, is_function, is_named, source_of
-from .texts import NAME, TOP, exists, prose, rows_of, text_of, told
+from .texts import NAME, TOP, exists, matching, prose, rows_of, text_of, told
 
+PROVED = "docs/proved.md"
 # A name, followed by names in parentheses: a function with its clauses.
 CITED = re.compile(r"`([\w:]+)`(?: \(((?:`\w+`(?:, |; | and )?)+)\))?")
 LISTED = re.compile(r"\(((?:`\w+`(?:, |; | and )?)+)\)")
@@ -43,7 +44,7 @@ def of_prose(crate, line):
 def clauses(_place):
     """each function, law and clause that docs/proved.md names is in its crate"""
     missing, count, crate, calls = [], 0, None, []
-    for _, where, line in prose(("docs/proved.md",)):
+    for _, where, line in prose((PROVED,)):
         if line.startswith("## "):
             crate = None
         if begin := re.match(r"\*\*`(\w+)`\*\*", line):
@@ -66,7 +67,7 @@ def clauses(_place):
 def cited(_place):
     """each function with its clauses that the promise's table, the layers, the README, headline.md and CONTRIBUTING.md name is in its crate"""
     missing, count = [], 0
-    tables = [("docs/proved.md", "## The promise", 1), ("ARCHITECTURE.md", "## Layers", 2)]
+    tables = [(PROVED, "## The promise", 1), ("ARCHITECTURE.md", "## Layers", 2)]
     for page, heading, column in tables:
         for number, row in rows_of(text_of(page), heading):
             crates = [it for it in NAME.findall(row[0]) if exists("crates", it)]
@@ -124,3 +125,29 @@ def promised(_place):
             missing += [f"{where}: {function} has no clause {it}" for it in lost]
             missing += [f"{where}: no function {function}"] if listed and "::" in function and not known else []
     return told(missing, count, 220, "names")
+
+
+def parts(_place):
+    """the parts, scripts and cases that docs/proved.md's table of faults names are there"""
+    cases_of, missing, count = re.findall(r"^case (.*)$", text_of("crates/test_laboratory/stdin"), re.M), [], 0
+    for number, (_, where, _) in rows_of(text_of(PROVED), "## Faults that are tried"):
+        for name in NAME.findall(where):
+            count += 1
+            name = name.split()[0]
+            known = any(it.endswith(name) for it in cases_of) or exists("crates", name) or exists("scripts", "check", f"{name}.py")
+            missing += [] if known or exists(name) else [f"{PROVED}:{number}: no {name}"]
+    return told(missing, count, 25, "names")
+
+
+def sockets(_place):
+    """each test of the server's sockets that docs/proved.md names is there, and so is each function that it is about"""
+    checks = "".join(map(text_of, matching("scripts/check/*.py")))
+    crates = "".join(source_of(it, "src") for it in ("fe_server", "fe_hall", "fe_streams", "test_sockets"))
+    functions, words = set(re.findall(r"\b(?:def|fn) (\w+)\(", checks + crates)), set(re.findall(r"\w+", crates))
+    missing, count = [], 0
+    for number, (what, tests) in rows_of(text_of(PROVED), "## What no clause says of the server's sockets"):
+        for kind, names, known in (("test", tests, functions), ("function", what, words)):
+            for name in NAME.findall(names):
+                count += 1
+                missing += [] if known.issuperset(name.split("::")) else [f"{PROVED}:{number}: no {kind} {name}"]
+    return told(missing, count, 35, "tests and functions")

@@ -123,4 +123,4 @@ def links(_place):
     return told(missing, count, 100, "links")
 
 
-ALSO = ("blocks", "names", "clauses", "tried", "headers", "places", "measured", "rules", "imports", "promises")
+ALSO = ("blocks", "names", "clauses", "headers", "places", "measured", "rules", "imports", "promises")
