@@ -14,6 +14,7 @@ import signal
 import sys
 import threading
 import time
+from contextlib import suppress
 from typing import Any, List, Optional, Tuple
 
 from . import observer
@@ -213,13 +214,10 @@ class Shell:
 
 
 def seconds_of(word: str) -> float:
-    try:
-        seconds = float(word)
-    except ValueError:
-        raise Usage(f"{word} is no time") from None
-    if not 0 <= seconds < math.inf:
-        raise Usage(f"{word} is no time")
-    return seconds
+    with suppress(ValueError):
+        if 0 <= float(word) < math.inf:
+            return float(word)
+    raise Usage(f"{word} is no time")
 
 
 def write(path: str, text: str) -> None:
