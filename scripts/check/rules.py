@@ -65,9 +65,8 @@ def memory(_place):
 def widths(_place):
     """no line of a crate's sources and definitions is wider than 110 columns"""
     count, wrong = 0, []
-    for files in ("src/**/*.rt", "specs/**/*.antt"):
-        for path in sorted(glob.glob(f"crates/*/{files}", root_dir=TOP, recursive=True)):
-            lines = text_of(path).split("\n")
-            count += len(lines)
-            wrong += [f"{path}:{k}: {len(it)}" for k, it in enumerate(lines, 1) if len(it) > WIDTH and not WHOLE.match(it)]
+    for path in matching("crates/*/src/**/*.rt", "crates/*/specs/**/*.antt"):
+        lines = text_of(path).split("\n")
+        count += len(lines)
+        wrong += [f"{path}:{k}: {len(it)}" for k, it in enumerate(lines, 1) if len(it) > WIDTH and not WHOLE.match(it)]
     return told(wrong, count, 40000, "lines")

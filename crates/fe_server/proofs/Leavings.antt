@@ -41,10 +41,10 @@ each_answer conn [] acts issued = tt
 each_answer conn (m ∷ mails) acts issued = with_one (receipt_of conn m) (filter_map (receipt_of conn) mails) acts issued.0 (each_answer conn mails acts issued.1)
 
 -- each of them is in a later history
-answers_issued : (xs ys : List Act) → IsPrefix xs ys → (t : Transcript) → AreIssued t.conn t.mails.taken xs → AnswersIssued ys t
+answers_issued : (xs ys : List Act) → IsPrefix xs ys → (t : Transcript) → AreIssued t.conn t.mails.value.taken xs → AnswersIssued ys t
 answers_issued xs ys p t issued =
-    All-from_recursion (λ r. Contains ys (Issued r)) (filter_map (receipt_of t.conn) t.mails.taken)
-    (each_answer t.conn t.mails.taken ys (are_later t.conn t.mails.taken xs ys p issued))
+    All-from_recursion (λ r. Contains ys (Issued r)) (filter_map (receipt_of t.conn) t.mails.value.taken)
+    (each_answer t.conn t.mails.value.taken ys (are_later t.conn t.mails.value.taken xs ys p issued))
 
 -- a write side that began with a new seat took the mails that its seat has
 pub taken_issued : (conn : ℕ) (first mails : MailSeatState) (receipts : List Receipt) (all : List Mail) (acts : List Act)
@@ -59,7 +59,7 @@ taken_issued conn first mails receipts all acts p taken issued =
 pub none_whole : (history : List Act) → AreWhole None None history []
 none_whole history = record {
   each = All-nil IsOfConnection;
-  issued = All-nil (λ (t : Transcript). AreIssued t.conn t.mails.taken history);
+  issued = All-nil (λ (t : Transcript). AreIssued t.conn t.mails.value.taken history);
   calls_counted = refl;
   mails_counted = refl;
 }
@@ -91,15 +91,15 @@ one_more calls mails new_calls new_mails receipts one new before after call mail
     let t = comes.transcript in
     let seen = receipts.history in
     let last : after ≡ before ++ t ∷ [] = comes.is_last ∙ ap (λ (l : Leavings). l.transcripts ++ t ∷ []) (sym view) in
-    let Is : Transcript → Type 0 = λ t. AreIssued t.conn t.mails.taken new in record {
+    let Is : Transcript → Type 0 = λ t. AreIssued t.conn t.mails.value.taken new in record {
       each = subst (λ (ts : List Transcript). All IsOfConnection ts) (sym last) (All-push IsOfConnection before t whole.each comes.of);
       issued =
           subst (λ (ts : List Transcript). All Is ts) (sym last)
           (All-push Is before t
-          (All-weaker (λ (t : Transcript). AreIssued t.conn t.mails.taken seen) Is (λ t issued. are_later t.conn t.mails.taken seen new goes.0 issued) before whole.issued)
-          (are_later t.conn t.mails.taken one new goes.1 comes.issued));
-      calls_counted = one_counted (λ (t : Transcript). t.calls.calls) calls new_calls before after t call.calls whole.calls_counted more_calls (ap (λ (s : CallSeatState). s.calls) comes.same_calls) last;
-      mails_counted = one_counted (λ (t : Transcript). t.mails.mails) mails new_mails before after t mail.mails whole.mails_counted more_mails (ap (λ (s : MailSeatState). s.mails) comes.same_mails) last;
+          (All-weaker (λ (t : Transcript). AreIssued t.conn t.mails.value.taken seen) Is (λ t issued. are_later t.conn t.mails.value.taken seen new goes.0 issued) before whole.issued)
+          (are_later t.conn t.mails.value.taken one new goes.1 comes.issued));
+      calls_counted = one_counted (λ (t : Transcript). t.calls.value.calls) calls new_calls before after t call.calls whole.calls_counted more_calls (ap (λ (s : CallSeatState). s.calls) comes.same_calls) last;
+      mails_counted = one_counted (λ (t : Transcript). t.mails.value.mails) mails new_mails before after t mail.mails whole.mails_counted more_mails (ap (λ (s : MailSeatState). s.mails) comes.same_mails) last;
     }
 
 -- ---- at the end
@@ -108,7 +108,7 @@ one_more calls mails new_calls new_mails receipts one new before after call mail
 pub all_issued : (calls mails : Option Seats) (seen history : List Act) (transcripts : List Transcript) → AreWhole calls mails seen transcripts → IsPrefix seen history
     → All (AnswersIssued history) transcripts
 all_issued calls mails seen history transcripts whole p =
-    All-weaker (λ (t : Transcript). AreIssued t.conn t.mails.taken seen) (AnswersIssued history) (λ t issued. answers_issued seen history p t issued) transcripts whole.issued
+    All-weaker (λ (t : Transcript). AreIssued t.conn t.mails.value.taken seen) (AnswersIssued history) (λ t issued. answers_issued seen history p t issued) transcripts whole.issued
 
 -- the books of these seats
 pub all_counted : (calls mails : Seats) (all_calls all_mails : Option Seats) (seen : List Act) (transcripts : List Transcript) (sent : List (List ClientMessage)) (kept : Bool) (audit : Audited)

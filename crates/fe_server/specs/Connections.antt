@@ -12,19 +12,19 @@ use Rattle.fe_server.specs.declared.transcript.Transcript.{Transcript}
 -- mails that were taken, and nothing else: all of them, unless a write failed or memory was short.
 abbrev pub IsOfConnection : Transcript → Type 0
 IsOfConnection t =
-    IsTranscript t.received t.sent t.conn t.calls t.list t.read_end t.mails t.receipts t.write_end
+    IsTranscript t.received t.sent t.conn t.calls.value t.list t.read_end t.mails.value t.receipts t.write_end
 
 -- each answer among the mails that were taken for the connection was issued to it
 abbrev pub AnswersIssued : List Act → Transcript → Type 0
 AnswersIssued history t =
-    All (λ r. Contains history (Issued r)) (filter_map (receipt_of t.conn) t.mails.taken)
+    All (λ r. Contains history (Issued r)) (filter_map (receipt_of t.conn) t.mails.value.taken)
 
 -- how many calls these connections made, and how many mails were taken for them
 abbrev pub calls_of : List Transcript → ℕ
-calls_of transcripts = sum_by (λ t. t.calls.calls) transcripts
+calls_of transcripts = sum_by (λ t. t.calls.value.calls) transcripts
 
 abbrev pub mails_of : List Transcript → ℕ
-mails_of transcripts = sum_by (λ t. t.mails.mails) transcripts
+mails_of transcripts = sum_by (λ t. t.mails.value.mails) transcripts
 
 -- the books count the calls and the mails of these connections, and no others
 abbrev pub AreCounted : List Transcript → Books → Type 0

@@ -6,6 +6,7 @@ use fe_hall::{CallSeat, MailSeat, ReadEnd, Receipt, WriteEnd};
 use fe_wire::ClientMessage;
 use std::collections::LinkedList;
 use std::marker::Brand;
+use std::snapshot::Snapshot;
 
 /// What the socket of a connection received and was sent, and what its two sides did. The program makes none:
 /// only clauses speak of it.
@@ -14,11 +15,11 @@ pub struct Transcript {
     received: ByteLog,
     sent: ByteLog,
     /// The seat of the read side, the list of messages that it sent, and how it ended.
-    calls: CallSeat<Brand>,
+    calls: Snapshot<CallSeat<Brand>>,
     list: LinkedList<ClientMessage>,
     read_end: ReadEnd,
     /// The seat of the write side, its receipts, and how it ended.
-    mails: MailSeat<Brand>,
+    mails: Snapshot<MailSeat<Brand>>,
     receipts: LinkedList<Receipt>,
     write_end: WriteEnd,
 }

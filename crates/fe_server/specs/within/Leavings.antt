@@ -19,10 +19,10 @@ transcript_of received sent conn calls list read_end mails receipts write_end = 
   conn = conn;
   received = received;
   sent = sent;
-  calls = calls;
+  calls = record { marker = record {}; value = calls };
   list = list;
   read_end = read_end;
-  mails = mails;
+  mails = record { marker = record {}; value = mails };
   receipts = receipts;
   write_end = write_end;
 }
@@ -44,7 +44,7 @@ amount_in (Some seats) = seats.amount
 pub record AreWhole (calls mails : Option Seats) (history : List Act)
     (transcripts : List Transcript) : Type 0 where
   pub each : All IsOfConnection transcripts
-  pub issued : All (λ t. AreIssued t.conn t.mails.taken history) transcripts
+  pub issued : All (λ t. AreIssued t.conn t.mails.value.taken history) transcripts
   pub calls_counted : amount_in calls ≡ calls_of transcripts
   pub mails_counted : amount_in mails ≡ mails_of transcripts
 
@@ -55,6 +55,6 @@ pub record ComesAfter (before : List Transcript) (calls : CallSeatState) (mails 
   pub transcript : Transcript
   pub is_last : after ≡ before ++ transcript ∷ []
   pub of : IsOfConnection transcript
-  pub issued : AreIssued transcript.conn transcript.mails.taken history
-  pub same_calls : transcript.calls ≡ calls
-  pub same_mails : transcript.mails ≡ mails
+  pub issued : AreIssued transcript.conn transcript.mails.value.taken history
+  pub same_calls : transcript.calls.value ≡ calls
+  pub same_mails : transcript.mails.value ≡ mails
