@@ -191,7 +191,7 @@ OWNED = (
     ("docs/proved.md", "`steps_are_few` (# entries)", STATE, "most_event_entries = #"),
     ("docs/proved.md", "`boxes_stay_short` (# mails)", MAILS, "most_mails_in_box = #"),
     ("docs/proved.md", "The list has the first # attaches and calls", "crates/fe_history/src/strange.rt", "LISTED: usize = #;"),
-    ("docs/proved.md", "The receipts are the first # answers", f"{HALL}writing.rt", "RECEIPTS: usize = #;"),
+    ("docs/proved.md", "The receipts are the first # answers", f"{HALL}first_receipts.rt", "RECEIPTS: usize = #;"),
     ("docs/store.md", "So it is at most # above its image's place, or # in format 2", "crates/fe_keeper/specs/Stands.antt", "One place = place + # .. Two place = place + #"),
     ("docs/headline.md", "each entry adds # to the place", "crates/fe_state/specs/State.antt", "place = s.place + #;"),
     ("docs/performance.md", "1,000: up to 1.8 times the user time | # |", f"{HALL}hold.rt", "LOOKS: u64 = #;"),
