@@ -12,23 +12,16 @@ use std::io::Read;
 /// faults they failed, so that clauses can name them.
 #[derive(Drop)]
 pub struct CountedReader<R> {
-    stream: R,
-    /// How many reads were made. The count stays at `u64::MAX`.
-    reads: u64,
-    calls: StreamCalls,
+    calls: StreamCalls<R>,
 }
 
 impl<R> CountedReader<R> {
     /// The reader before its first read.
     pub fn new(stream: R) -> CountedReader<R>
-        ensures stream { result.stream ≡ stream }
-        ensures reads { result.reads ≡ 0 }
-        ensures calls { result.calls ≡ no_calls }
+        ensures calls { result.calls ≡ no_calls stream }
     {
         CountedReader {
-            stream,
-            reads: 0,
-            calls: StreamCalls::none(),
+            calls: StreamCalls::new(stream),
         }
     }
 }
@@ -40,19 +33,18 @@ impl<R: Read> Source for CountedReader<R> {
     ghost use Rattle.std.proofs.Math.Nat.{le_of_sub-eq-zero, zero-min, zero-sub};
     ghost use Rattle.fe_text.specs.Counted.{HasFailed, WasRead};
 
-    ghost remaining = { λ reader. R.remaining reader.stream };
+    ghost remaining = { λ reader. R.remaining reader.calls.stream };
 
-    ghost was_read = { WasRead };
+    ghost was_read = { λ reader count. WasRead reader.calls count };
 
     ghost was_interrupted = { λ reader. reader.calls.errors.interrupted ≡ true };
 
     ghost has_failed = { λ reader fault. HasFailed reader.calls fault };
 
-    ghost begins = { λ s. le_of_sub-eq-zero
-        (ap (λ n. n - s.reads) (zero-min (2 ^ 64 - 1)) ∙ zero-sub s.reads) };
+    ghost begins = { λ s. le_of_sub-eq-zero (ap (λ n. n - s.calls.count) (zero-min (2 ^ 64 - 1))
+        ∙ zero-sub s.calls.count) };
 
     fn read_piece(&mut self, piece: &mut [u8]) -> Result<Option<usize>, StreamFault> {
-        self.reads = self.reads.saturating_add(1);
-        self.calls.read(&mut self.stream, piece)
+        self.calls.read(piece)
     }
 }

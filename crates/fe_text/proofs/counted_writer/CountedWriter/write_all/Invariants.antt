@@ -8,8 +8,8 @@ use Rattle.fe_text.proofs.counted_writer.CountedWriter.write_all.Given as goal
 abbrev pub invariant-loop-turn : goal.invariant-loop-turn
 invariant-loop-turn g l = record {
   within : l.done ≤ length l.text;
-  written : Appends (g.W.Write.contents l.initial.self.stream) (g.W.Write.contents l.self.stream) (take l.done l.text);
-  counts : l.turn ≤ l.self.writes;
+  written : Appends (g.W.Write.contents l.initial.self.calls.stream) (g.W.Write.contents l.self.calls.stream) (take l.done l.text);
+  counts : l.turn ≤ l.self.calls.count;
   flushed : l.done ≡ 0 → l.self.calls.is_flushed ≡ l.initial.self.calls.is_flushed;
-  stays : (fault : StreamFault) → HasBroken l.initial.self fault → HasBroken l.self fault;
+  stays : (fault : StreamFault) → HasBroken l.initial.self.calls fault → HasBroken l.self.calls fault;
 }
