@@ -11,6 +11,14 @@ pub gates_le : (bytes : List ℕ) (area at : ℕ) (ns : List ℕ) (end : ℕ) �
 gates_le bytes area at [] end gates = omega (arith, gates.0)
 gates_le bytes area at (n ∷ ns) end gates = let le = gates_le bytes area (at + (5 + n)) ns end gates.2 in omega (arith, le)
 
+-- the gates after one that is open
+pub gates_behind : (bytes : List ℕ) (area at n end : ℕ) (ns : List ℕ) → IsGateOpen bytes (area + at) → number_at bytes (area + at + 1) 4 ≡ n → GatesEnd bytes area at ns end
+    → (rest : List ℕ) × GatesEnd bytes area (at + (5 + n)) rest end
+gates_behind bytes area at n end [] opened number gates = absurd (gates.1 opened)
+gates_behind bytes area at n end (m ∷ ms) opened number gates =
+    let same : m ≡ n = sym gates.1 ∙ number in
+    (ms, subst (λ (k : ℕ). GatesEnd bytes area (at + (5 + k)) ms end) same gates.2)
+
 -- the gates after groups that stand
 gates_after : (format : Format) (bytes : List ℕ) (area at : ℕ) (ns : List ℕ) (end : ℕ) (payloads : List (List ℕ)) → GatesEnd bytes area at ns end → StandFrom format bytes area at payloads
     → (rest : List ℕ) × GatesEnd bytes area (at + end_of_groups payloads) rest end

@@ -10,7 +10,7 @@ ghost use Rattle.fe_journal.specs.Journal.{OnlyReads};
 ghost use Rattle.fe_keeper.specs.Damage.{MayLackMemory};
 ghost use Rattle.fe_keeper.specs.Stands.{StandsFor};
 ghost use Rattle.fe_state.specs.State.{ServerState};
-ghost use Rattle.fe_store.specs.Opening.{IsReason};
+ghost use Rattle.fe_store.specs.Opening.{FoundThere, IsReason, TellsFile};
 ghost use Rattle.fe_store.specs.declared.fault.OpenFault.{OpenFault};
 ghost use Rattle.fe_store.specs.declared.fault.OpenFault.TheVariants as store;
 ghost use Rattle.fe_text.specs.declared.fault.StreamFault.{StreamFault};
@@ -21,7 +21,7 @@ ghost use Rattle.fe_look.specs.declared.fault.LookFault.TheVariants as fault;
 use crate::fault::LookFault;
 use crate::reading::copy_of;
 use crate::state_text::state_text;
-use fe_disk::{Disk, SystemFile};
+use fe_disk::{Disk, FileDisk, StoreFile};
 use fe_state::State;
 use fe_store::{OpenFault, disk_to_read, open_existing};
 use fe_text::{Sink, StreamFault};
@@ -146,12 +146,19 @@ pub fn look_copy<D: Disk, W: Sink>(
 /// `Device` if there is no such file, it can't be read, or none of 100 readings was whole and a checkpoint
 /// began during one at least. `Size` if the file doesn't have the size of a store. `Unformatted` or `Damaged`
 /// if it holds no state. `Memory` and `Stream` as `look_copy` says.
-pub fn look<R: Files<File = File>, W: Sink>(
+pub fn look<F: StoreFile + Drop, R: Files<File = File>, W: Sink>(
     rt: &R,
     alloc: Global,
     path: &str,
     writer: &mut W,
 ) -> Result<(), LookFault>
+    // What is written is the text of the state that the file at the path stood for when it was found. A fault
+    // that speaks of the file's bytes is true of those that it had then.
+    ensures shows { OnOk result (FoundThere ⟦<FileDisk<F> as Disk>⟧ (F.is_at path.now)
+        (λ image. Shows image (W.contents writer.old) (W.contents writer.new))) }
+    ensures tells { (why : OpenFault) → IsErrOf result (fault.Store why)
+        → TellsFile ⟦<FileDisk<F> as Disk>⟧ (F.is_at path.now) why }
+
     // What is written is the text of a state, or after a fault the start of one. Without a store, nothing is.
     ensures written { OnOk result (ShowsSome (W.contents writer.old) (W.contents writer.new)) }
     ensures front { ShowsFront (W.contents writer.old) (W.contents writer.new) }
@@ -163,6 +170,6 @@ pub fn look<R: Files<File = File>, W: Sink>(
     ensures input { IsErrOf result (fault.Stream StreamFault.Input)
         → W.has_failed writer.new StreamFault.Input }
 {
-    let mut disk = disk_to_read::<SystemFile, R>(rt, path)?;
+    let mut disk = disk_to_read::<F, R>(rt, path)?;
     look_copy(alloc, &mut disk, writer)
 }

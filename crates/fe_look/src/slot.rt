@@ -1,7 +1,7 @@
 //! Reading one slot, a half of a store. A gate is the byte in front of a group that is 1 if the group counts
 //! (`docs/store.md`).
 
-ghost use Rattle.std.specs.Prelude.{◌≡◌, ◌+◌, ◌<◌, ◌≤◌, IsTrue, length, IfOk, IfSome, OnOk};
+ghost use Rattle.std.specs.Prelude.{◌≡◌, ◌+◌, ◌<◌, ◌≤◌, ℕ, IsTrue, length, IfOk, IfNone, IfSome, OnOk};
 ghost use Rattle.fe_disk.specs.Disk.{after_write};
 ghost use Rattle.fe_journal.specs.Layout.{area_bytes, device_bytes};
 ghost use Rattle.fe_look.specs.Reading.{HasRead, OnlyAsks};
@@ -77,6 +77,8 @@ fn end_of_groups<D: Disk>(disk: &mut D, area: usize) -> Result<Option<usize>, De
     requires device { D.size disk.old ≡ device_bytes }
     ensures ends { D.honest disk.old → IfOk result (λ found. IfSome found (EndsAt (D.seen disk.old) area)) }
     ensures within { IfOk result (λ found. IfSome found (λ end. end < area_bytes)) }
+    ensures none { D.honest disk.old → IfOk result
+        (λ found. IfNone found ((end : ℕ) → EndsAt (D.seen disk.old) area end → area_bytes < end + 5)) }
     ensures reads { OnOk result (HasRead 1 (D.calls disk.old) (D.calls disk.new)) }
     ensures device { OnlyAsks D.Disk result disk.old disk.new }
 {

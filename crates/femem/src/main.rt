@@ -84,7 +84,7 @@ fn start<R: Runtime + Files<File = File> + Net + Threads + Wait + Sync + AllocGl
         }
         Invocation::Look { store } => {
             let mut writer = CountedWriter::new(io::writer(rt));
-            look(rt, rt.alloc(), store, &mut writer)?;
+            look::<SystemFile, R, _>(rt, rt.alloc(), store, &mut writer)?;
         }
         Invocation::Serve { settings } => {
             let mut writer = CountedWriter::new(io::writer(rt));

@@ -7,6 +7,7 @@ use Rattle.fe_look.proofs.slot.end_of_groups.Given as goal
 abbrev pub invariant-loop-at : goal.invariant-loop-at
 invariant-loop-at g l = record {
   leads : g.D.Disk.honest l.fn.disk → (ns : List ℕ) (end : ℕ) → GatesEnd (g.D.Disk.seen l.fn.disk) l.area l.at ns end → EndsAt (g.D.Disk.seen l.fn.disk) l.area end;
+  follows : g.D.Disk.honest l.fn.disk → (end : ℕ) → EndsAt (g.D.Disk.seen l.fn.disk) l.area end → (ns : List ℕ) × GatesEnd (g.D.Disk.seen l.fn.disk) l.area l.at ns end;
   still : g.D.Disk.failures l.disk ≡ g.D.Disk.failures l.fn.disk;
   works : 0 < l.at → Rises (g.D.Disk.failures l.fn.disk) (g.D.Disk.failures l.disk) → ⊥;
   read : 0 < l.at → HasRead 1 (g.D.Disk.calls l.fn.disk) (g.D.Disk.calls l.disk);
