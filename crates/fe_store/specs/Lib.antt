@@ -1,3 +1,4 @@
+pub mod Kept
 pub mod Opening
 pub mod Spare
 pub mod within

@@ -5,14 +5,18 @@
 //! lock of that file and has seen that the name leads to it. So two servers that start at once never remove
 //! or name each other's file.
 
-ghost use Rattle.std.specs.Prelude.{◌≡◌, ◌↔◌, length};
+ghost use Rattle.std.specs.Prelude.{◌≡◌, ◌↔◌, ◌++◌, length, string_bytes, IfOk, OnOk};
+ghost use Rattle.fe_disk.specs.Disk.{LeavesJust};
 ghost use Rattle.fe_disk.specs.FileDisk.{file_of};
 ghost use Rattle.fe_journal.specs.Layout.{device_bytes};
+ghost use Rattle.fe_store.specs.Kept.{IsCopied, IsKept};
+ghost use Rattle.fe_store.specs.Opening.{FoundThere};
+ghost use Rattle.fe_store.specs.Spare.{AreSpare};
 
 use crate::fault::{BesideFault, OpenFault};
 use crate::fresh::is_spare;
 use crate::opening::open_on;
-use fe_disk::{Disk, FileDisk, StoreFile, add_name, remove_name};
+use fe_disk::{DeviceFault, Disk, FileDisk, StoreFile, add_name, remove_name};
 use fe_journal::{DEVICE_BYTES, buffer_of};
 use fe_memory::OutOfMemory;
 use std::alloc::Global;
@@ -61,17 +65,18 @@ pub(crate) fn keep<F: StoreFile + Drop, R: Files<File = File>>(
     ensures size { F.size (file_of disk.new) ≡ device_bytes }
     ensures same { F.honest (file_of disk.old) → F.seen (file_of disk.new) ≡ F.seen (file_of disk.old) }
     ensures honesty { F.honest (file_of disk.new) ↔ F.honest (file_of disk.old) }
+    ensures kept { F.honest (file_of disk.old)
+        → OnOk result (IsKept ⟦<FileDisk<F> as Disk>⟧ F.is_at path.now (F.seen (file_of disk.old))) }
 {
-    let mut bytes = buffer_of(alloc, DEVICE_BYTES)?;
-    disk.read_at(0, &mut bytes)?;
-    if is_spare(&bytes, &[]) {
+    let bytes = bytes_of(alloc, disk)?;
+    if is_spare(bytes.as_slice(), &[]) {
         return Ok(());
     }
     let kept = beside(alloc, path, KEPT)?;
     match fs::symlink_metadata(rt, kept.as_str()) {
-        Ok(_) => compare::<F, R>(rt, alloc, kept.as_str(), &bytes),
+        Ok(_) => compare::<F, R>(rt, alloc, kept.as_str(), bytes.as_slice()),
         Err(error) if error.kind() == ErrorKind::NotFound => {
-            copy::<F, R>(rt, alloc, path, kept.as_str(), &bytes)
+            copy::<F, R>(rt, alloc, path, kept.as_str(), bytes.as_slice())
         }
         Err(_) => Err(BesideFault::Device),
     }
@@ -135,12 +140,12 @@ fn copy<F: StoreFile + Drop, R: Files<File = File>>(
     bytes: &[u8],
 ) -> Result<(), BesideFault>
     requires { length bytes.now ≡ device_bytes }
+    ensures { OnOk result (IsCopied ⟦<FileDisk<F> as Disk>⟧ bytes.now) }
 {
     let new = beside(alloc, path, NEW)?;
     clear::<F, R>(rt, alloc, path, new.as_str(), bytes)?;
     let mut disk = FileDisk::<F>::create(rt, new.as_str(), DEVICE_BYTES)?;
-    disk.write_at(0, bytes)?;
-    disk.sync()?;
+    put_all(&mut disk, bytes)?;
     let named = renamed(rt, new.as_str(), kept);
     drop(disk);
     match named {
@@ -155,15 +160,42 @@ fn compare<F: StoreFile + Drop, R: Files<File = File>>(
     alloc: Global,
     kept: &str,
     bytes: &[u8],
-) -> Result<(), BesideFault> {
+) -> Result<(), BesideFault>
+    ensures { OnOk result (FoundThere ⟦<FileDisk<F> as Disk>⟧ (F.is_at kept.now) (AreSpare bytes.now)) }
+{
     let mut disk = FileDisk::<F>::read_only(rt, kept, DEVICE_BYTES)?;
-    let mut others = buffer_of(alloc, DEVICE_BYTES)?;
-    disk.read_at(0, &mut others)?;
-    if is_spare(bytes, &others) {
+    let others = bytes_of(alloc, &mut disk)?;
+    if is_spare(bytes, others.as_slice()) {
         Ok(())
     } else {
         Err(BesideFault::Device)
     }
+}
+
+/// Writes all bytes of a disk, so that no stop loses them.
+fn put_all<D: Disk>(disk: &mut D, bytes: &[u8]) -> Result<(), DeviceFault>
+    requires { length bytes.now ≡ D.size disk.old }
+    ensures has { D.honest disk.old → OnOk result (D.seen disk.new ≡ bytes.now) }
+    ensures leaves { D.honest disk.old → OnOk result (LeavesJust bytes.now (D.may_leave disk.new)) }
+    ensures honesty { D.honest disk.new → D.honest disk.old }
+{
+    disk.write_at(0, bytes)?;
+    disk.sync()?;
+    Ok(())
+}
+
+/// All bytes of a disk that has the size of a store.
+fn bytes_of<D: Disk>(alloc: Global, disk: &mut D) -> Result<Vec<u8>, BesideFault>
+    requires { D.size disk.old ≡ device_bytes }
+    ensures bytes { D.honest disk.old → IfOk result (λ bytes. bytes.items ≡ D.seen disk.old) }
+    ensures whole { IfOk result (λ bytes. length bytes.items ≡ device_bytes) }
+    ensures same { D.honest disk.old → D.seen disk.new ≡ D.seen disk.old }
+    ensures size { D.size disk.new ≡ D.size disk.old }
+    ensures honesty { D.honest disk.new ↔ D.honest disk.old }
+{
+    let mut bytes = buffer_of(alloc, DEVICE_BYTES)?;
+    disk.read_at(0, &mut bytes)?;
+    Ok(bytes)
 }
 
 /// Gives the file its last name, and removes its `PATH.new`. `false` if a file has the name already; this one
@@ -174,6 +206,8 @@ fn renamed<R: Files<File = File>>(rt: &R, new: &str, name: &str) -> io::Result<b
     given
 }
 
-fn beside(alloc: Global, path: &str, end: &str) -> Result<String, OutOfMemory> {
+fn beside(alloc: Global, path: &str, end: &str) -> Result<String, OutOfMemory>
+    ensures { IfOk result (λ name. string_bytes name ≡ path.now ++ end.now) }
+{
     Ok(format!(in alloc; "{path}{end}")?)
 }

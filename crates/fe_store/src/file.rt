@@ -4,7 +4,9 @@
 ghost use Rattle.std.specs.Prelude.{◌≡◌, ◌≢◌, ℕ, false, IfOk, IfErr, IsErrOf, None};
 ghost use Rattle.fe_disk.specs.FileDisk.{inner, file_of};
 ghost use Rattle.fe_journal.specs.Layout.{device_bytes};
-ghost use Rattle.fe_store.specs.Opening.{FindsStoreFile, IsOpenedAs, OpensFile, TellsFile, TellsImage};
+ghost use Rattle.fe_store.specs.Kept.{LosesNone};
+ghost use Rattle.fe_store.specs.Opening.{FindsStoreFile, FoundThere, IsOpenedAs, OpensFile, TellsFile};
+ghost use Rattle.fe_store.specs.Opening.{TellsImage};
 ghost use Rattle.fe_store.specs.declared.fault.OpenFault.TheVariants as fault;
 
 use crate::beside::{keep, make, tidy};
@@ -32,6 +34,9 @@ pub fn open_store<F: StoreFile + Drop, R: Files<File = File>>(
     // those that it had when it was found.
     ensures opened { IfOk result (OpensFile ⟦<FileDisk<F> as Disk>⟧ (F.is_at path.now) format) }
     ensures tells { IfErr result (TellsFile ⟦<FileDisk<F> as Disk>⟧ (F.is_at path.now)) }
+    // If it was formatted, the bytes that it had are kept beside it, or need not be.
+    ensures kept { IfOk result (λ keeper. FoundThere ⟦<FileDisk<F> as Disk>⟧ (F.is_at path.now)
+        (λ image. LosesNone ⟦<FileDisk<F> as Disk>⟧ F.is_at path.now image keeper.state)) }
     ensures works { IfOk result (λ keeper. keeper.store.has_failed ≡ false) }
     ensures none_under_way { IfOk result (λ keeper. keeper.store.checkpoint ≡ None) }
     ensures wrong_size { (found : ℕ) → IsErrOf result (fault.Size found) → found ≢ device_bytes }
@@ -54,6 +59,8 @@ fn open_found<F: StoreFile + Drop, R: Files<File = File>>(
     ensures opened { F.honest (file_of disk)
         → IfOk result (IsOpenedAs ⟦<FileDisk<F> as Disk>⟧ (F.seen (file_of disk)) format) }
     ensures tells { F.honest (file_of disk) → IfErr result (λ why. TellsImage why (F.seen (file_of disk))) }
+    ensures kept { F.honest (file_of disk) → IfOk result
+        (λ keeper. LosesNone ⟦<FileDisk<F> as Disk>⟧ F.is_at path.now (F.seen (file_of disk)) keeper.state) }
     ensures works { IfOk result (λ keeper. keeper.store.has_failed ≡ false) }
     ensures none_under_way { IfOk result (λ keeper. keeper.store.checkpoint ≡ None) }
     ensures sized { (found : ℕ) → IsErrOf result (fault.Size found) → ⊥ }

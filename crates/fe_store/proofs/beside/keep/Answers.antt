@@ -1,15 +1,28 @@
-use Rattle.std.proofs.Common.{◌∙◌}
+use Rattle.std.proofs.Common.{◌≡◌, ◌∙◌, ℕ, List, subst}
+use Rattle.std.proofs.lemmas.Result.{on_ok_weaker}
+use Rattle.fe_disk.specs.declared.disk.Disk.{Ghosts}
+use Rattle.fe_disk.specs.declared.file_disk.FileDisk.{FileDisk}
+use Rattle.fe_store.specs.Opening.{FoundThere}
+use Rattle.fe_store.specs.Spare.{AreSpare}
+use Rattle.fe_store.specs.Kept.{IsCopied, IsKept, kept_name}
 use Rattle.fe_store.proofs.beside.keep.Goals as goal
 
--- a read that failed leaves the disk's size
-pub returns-in_err-read_at-clause-size : goal.returns-in_err-read_at-clause-size
-returns-in_err-read_at-clause-size g c = c.read_at.ensures.device.same_size ∙ c.requires.size
+-- the file that keeps these bytes was found
+there : {F : Type 0} (model : Ghosts (FileDisk F)) (is_at : List ℕ → F → Type 0) (path name seen bytes : List ℕ) → name ≡ kept_name path → bytes ≡ seen
+    → FoundThere model (is_at name) (AreSpare bytes) → IsKept model is_at path seen
+there model is_at path name seen bytes named same found =
+    subst (λ (l : List ℕ). IsKept model is_at path l) same (IsKept.There (subst (λ (n : List ℕ). FoundThere model (is_at n) (AreSpare bytes)) named found))
 
-pub returns-in_err-read_at-clause-same : goal.returns-in_err-read_at-clause-same
-returns-in_err-read_at-clause-same g c = c.read_at.ensures.same
+-- a file was made that has these bytes
+copied : {F : Type 0} (model : Ghosts (FileDisk F)) (is_at : List ℕ → F → Type 0) (path seen bytes : List ℕ) → bytes ≡ seen → IsCopied model bytes → IsKept model is_at path seen
+copied model is_at path seen bytes same is = subst (λ (l : List ℕ). IsKept model is_at path l) same (IsKept.Copied is)
 
-pub returns-in_err-read_at-clause-honesty : goal.returns-in_err-read_at-clause-honesty
-returns-in_err-read_at-clause-honesty g c = c.read_at.ensures.device.honesty
+pub returns-in-Ok-clause-kept : goal.returns-in-Ok-clause-kept
+returns-in-Ok-clause-kept g c = λ honest.
+    on_ok_weaker c.compare.result
+    (there _ g.F.StoreFile.is_at c.args.path.now _ _ _ (c.as_str-in-Ok.ensures.value ∙ c.in_ok-kept.ensures) (c.as_slice-in-Ok.ensures.value ∙ c.in_ok-bytes.ensures.bytes honest))
+    c.compare.ensures
 
-pub returns-in_err-kept-clause-honesty : goal.returns-in_err-kept-clause-honesty
-returns-in_err-kept-clause-honesty g c = c.read_at.ensures.device.honesty
+pub returns-in-Err-clause-kept : goal.returns-in-Err-clause-kept
+returns-in-Err-clause-kept g c = λ honest.
+    on_ok_weaker c.copy.result (copied _ g.F.StoreFile.is_at c.args.path.now _ _ (c.as_slice-in-Err.ensures.value ∙ c.in_ok-bytes.ensures.bytes honest)) c.copy.ensures
