@@ -109,6 +109,7 @@ static pid_t begin_ends(void) {
       femem_error error = femem_queue_put(first, put, NULL, 20);
       put += error == FEMEM_OK;
       if (error != FEMEM_WITHDRAWN) right(error);
+      pause_for(40); /* the workers are killed meanwhile, however fast they are */
     }
     femem_job job;
     femem_error error = femem_queue_take(last, &job, got < JOBS ? 20 : 500);
