@@ -46,6 +46,7 @@ class Ticket(Generic[T]):
     # The key under which the session file keeps its answer, and tickets asked under that key meanwhile.
     key: Optional[bytes] = None
     followers: Optional[List[Ticket[T]]] = None
+    is_recovered = False  # whether a former process with the session file asked it
     has_moved = False  # whether it was taken back to make room, and is to be sent again
     # Whether it is first asked without waiting. If it would wait, another session asks it again.
     asks_first = False
@@ -58,6 +59,10 @@ class Ticket(Generic[T]):
     def must_end(self) -> bool:
         """Whether the server must end it, whatever other clients do."""
         return self.cancel_sent or self.asks_first or not self.request.may_wait
+
+    def is_left_by_all(self) -> bool:
+        """Whether no call that was made under its key waits for it."""
+        return all(follower.done or follower.taken_back is not None for follower in self.followers or ())
 
     def end(self, result: Optional[T] = None, error: Optional[BaseException] = None) -> None:
         self.result = result

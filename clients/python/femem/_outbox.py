@@ -80,7 +80,7 @@ class Outbox:
         for number, asked in sorted(state.unanswered.items()):
             ticket: Ticket[Any] = Ticket(of_frame(asked.frame))
             ticket.number = number
-            ticket.taken = True
+            ticket.taken = ticket.is_recovered = True
             ticket.key = asked.key
             ticket.asked_at = 0.0 if self._events is None else self._events.now()
             if asked.key is not None:
@@ -161,7 +161,7 @@ class Outbox:
             tickets = [*self.window.unanswered.values(), *tickets]
             self.window.unanswered.clear()
         self._queue.clear()
-        return tickets
+        return [each for ticket in tickets for each in (ticket, *(ticket.followers or ()))]
 
     def send(self, now: float) -> None:
         """Sends requests as far as the window has room, and messages that make more room."""
@@ -322,10 +322,19 @@ class Outbox:
                 self._cancel(ticket, now)
 
     def withdraw(self, ticket: Ticket[Any], now: float, is_ready: bool) -> None:
-        """Takes a ticket back; it has the error to end with. If nothing can be sent now, `send_again` does it."""
+        """Takes a ticket back; it has the error to end with. If nothing can be sent now, `send_again` does it.
+
+        A request that a former process left open goes with the last call that waits for it under its key: whoever is told that
+        it did not happen may act on that.
+        """
         if ticket.number is None:
+            first = self.keys.get(ticket.key) if ticket.key is not None else None
             if ticket in self._queue:
                 self._queue.remove(ticket)
+            elif first is not None and first.is_recovered and first.is_left_by_all():
+                first.taken_back = ticket.taken_back
+                self.withdraw(first, now, is_ready)
+                return
             self._end(ticket, error=ticket.taken_back)
         elif is_ready and not self._passes:
             self._cancel(ticket, now)
@@ -374,10 +383,15 @@ class Outbox:
         if self.keys.get(ticket.key) is ticket:
             del self.keys[ticket.key]
         error, followers = ticket.error, [follower for follower in ticket.followers or () if not follower.done]
-        if followers and isinstance(error, errors.Withdrawn):
-            # It did not happen, and the others still wait for it: the first of them asks in its place.
-            first, *first.followers = followers
-            self.add((first,))
+        if isinstance(error, errors.Withdrawn):
+            # It did not happen. Of the others, those that still wait for it remain: the first of them asks in its place.
+            for follower in followers:
+                if follower.taken_back is not None:
+                    self._end(follower, error=follower.taken_back)
+            waiting = [follower for follower in followers if follower.taken_back is None]
+            if waiting:
+                first, *first.followers = waiting
+                self.add((first,))
             return
         for follower in followers:
             self._end(follower, ticket.result, None if error is None else type(error)(*error.args))

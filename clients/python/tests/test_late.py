@@ -201,6 +201,38 @@ class Late(WithFolder):
         self.assertEqual((got, core.failure), ([1, 5], None))
         core.file.abandon()
 
+    def test_a_time_out_under_a_key_takes_back_what_an_earlier_process_left(self):
+        """The call comes at any step, and the value too. It is the call's result, or is there after the time-out and stays there."""
+        ends = set()
+        for asked_at, put_at, waits in itertools.product(range(10), range(14), (False, True)):
+            with self.subTest(asked_at=asked_at, put_at=put_at, waits=waits), SessionFolder(self):
+                ends.add(self.time_out_under_a_key(World(1), asked_at, put_at, waits))
+        self.assertEqual(ends, {(False, None), (False, errors.TimedOut), (True, None), (True, errors.TimedOut)})
+
+    def time_out_under_a_key(self, world, asked_at, put_at, waits):
+        """`waits`: another call under the key has no time-out. How the first one ended."""
+        word, _ = self.words(world)
+        take, other, late = requests.readfe(word, 0), world.core(9), 20
+        _, core = self.left(world, take, b"job")
+        (left,), calls = core.recovered, [Ticket(take) for _ in range(1 + waits)]
+        for call in calls:
+            call.key = b"job"
+        for at in range(late):
+            if at == asked_at:
+                core.take(calls[:1], 0.1, world.now)
+                core.take(calls[1:], None, world.now)
+            if at == put_at:
+                run(world, other, requests.writeef(word, 0, 77))
+            self.step(world, core)
+            self.assertFalse(not waits and calls[0].error is not None and core.is_open(b"job"))
+        taken = not world.model.state.arrays[word.id][1][0][1]
+        self.assertTrue(calls[0].done and (left.done or waits))
+        self.assertEqual([call.result for call in calls[1:]], [77] * waits)
+        self.assertEqual(taken, waits or calls[0].result == 77)
+        self.assertEqual((left.result == 77, core.keys(), core.failure), (taken, [b"job"] * taken, None))
+        core.file.abandon()
+        return waits, None if calls[0].error is None else type(calls[0].error)
+
     def with_late(self, world):
         """A client that asks for the floor above a request that was taken back, which comes late just before that."""
         word, count = self.words(world)

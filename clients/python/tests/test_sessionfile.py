@@ -294,9 +294,18 @@ class Files(WithFolder):
         self.server()
         with Client(self.path, session_file=self.file) as client:
             word = client.create("word", 1)
-            futures = [client.submit(requests.readfe(word, 0), key="k") for _ in range(3)]
+            take = requests.readfe(word, 0)
+            futures = [client.submit(take, key="k") for _ in range(3)]
             client.writeef(word, 0, 4)
             self.assertEqual([future.result(30) for future in futures], [4, 4, 4])
+            first = client.submit(take, key="l")
+            with self.assertRaises(femem.TimedOut):
+                client.once("l", take, timeout=0.05)
+            client.writeef(word, 0, 5)
+            self.assertEqual(first.result(30), 5)
+            futures = [client.submit(take, key="m") for _ in range(3)]
+            client.close()
+            self.assertEqual([type(future.exception(30)) for future in futures], 3 * [femem.Closed])
 
     def test_what_was_unanswered_is_recovered(self):
         self.server()
@@ -313,6 +322,28 @@ class Files(WithFolder):
             # Answered requests may be there too, if the file does not yet have the answer.
             self.assertEqual(found[:2], [("readfe 1 0", None, 10), ("readfe 1 1", b"second", 11)])
             self.assertEqual(client.once("second", requests.readfe(word, 1)), 11)
+
+    def test_a_time_out_under_a_key_ends_what_was_recovered(self):
+        """Whatever comes later stays in the word, and the key is free."""
+        self.server()
+        client = Client(self.path, session_file=self.file)
+        word = client.create("word", 1)
+        take = requests.readfe(word, 0)
+        client.submit(take, key="job")
+        client.readxx(word, 0)
+        self.abandon(client)
+        with Client(self.path, session_file=self.file) as client, Client(self.path, 8) as other:
+            withdrawn = client.submit(take, key="job")
+            with self.assertRaises(femem.TimedOut):
+                client.once("job", take, timeout=0.05)
+            self.assertEqual(client.keys(), [b"job"])  # another call waits for it
+            client.withdraw(withdrawn)
+            self.assertIsInstance(withdrawn.exception(60), femem.Withdrawn)
+            self.assertIsInstance(client.recovered[0].future.exception(60), femem.Withdrawn)
+            self.assertEqual((client.keys(), other.report().waiters), ([], []))
+            other.writeef(word, 0, 7)
+            self.assertEqual(other.readff(word, 0, nowait=True), 7)
+            self.assertEqual(client.once("job", take), 7)
 
     def test_what_is_recovered_is_awaited_with_asyncio(self):
         self.server()
