@@ -1,6 +1,7 @@
 """What a server costs, counted: its system calls, which `count.c` sees one by one, and its processor time. A bound here is the
 same on a slow machine, and whatever the patience."""
 
+import itertools
 import os
 import platform
 import re
@@ -282,6 +283,40 @@ def instructions(place):
     for name, figure in zip(FUNCTIONS, map(int, written[0])):
         holds(figure > 0 and abs(int(found[name]) - figure) * 100 <= INSTRUCTIONS_WITHIN * figure, f"{name}: {found[name]} instructions, not {figure}")
     return ", ".join(f"{name.split('::')[-1]} {found[name]}" for name in FUNCTIONS)
+
+
+def lines_over(connections, kind):
+    """Connections, of which eight have sessions, and 192 lines of that kind, or none."""
+    head = ["c1 attach 1", "c1 1 create words 8 empty", *(f"c{k} attach {k if k < 9 else 99 + k}" for k in range(2, connections + 1))]
+    lines = {
+        "": lambda k, turn: (),
+        "refused": lambda k, turn: (f"c{k} 99 readxx 1 0", f"c{k} 99 find a"),
+        "stored": lambda k, turn: (f"c{k} {2 * turn} readxx 1 0", f"c{k} {2 * turn + 1} writexf 1 {k - 1} 5"),
+        "woken": lambda k, turn: (f"c{k % 8 + 1} {2 * turn} readfe 1 0", f"c{k} {2 * turn + 1} writeef 1 0 5"),
+    }
+    return "\n".join([*head, *(line for turn in range(1, 13) for k in range(1, 9) for line in lines[kind](k, turn))])
+
+
+@within(120)
+def lines_of_many(place):
+    """a line of `femem run` takes at most 1.5 times as many instructions with 999 connections as with 8, whether it is refused, stored, or wakes another client"""
+    if shutil.which("valgrind") is None:
+        raise Skipped("there is no valgrind")
+    found = {}
+    for connections, kind in itertools.product((8, 999), ("", "refused", "stored", "woken")):
+        schedule = place.write("lines", lines_over(connections, kind).encode())
+        words = f'valgrind --tool=callgrind --callgrind-out-file=/dev/null "{place.program}" run < "{schedule}" 2>&1'
+        said = output_of(place, ["sh", "-c", words], 60)
+        found[connections, kind] = int(re.search(r"Collected : (\d+)", said)[1]), len(re.findall(r"^c\d+ ", said, re.M))
+    costs = {}
+    for (connections, kind), (taken, replies) in found.items():
+        before, others = found[connections, ""]
+        same(replies - others, 192 if kind else 0, f"replies to lines that are {kind}")
+        costs[connections, kind] = (taken - before) / 192
+    for kind in ("refused", "stored", "woken"):
+        few, many = costs[8, kind], costs[999, kind]
+        holds(1000 < few and many <= 1.5 * few, f"a line that is {kind}: {few:.0f} instructions with 8 connections, {many:.0f} with 999")
+    return ", ".join(f"{kind} {costs[999, kind] / costs[8, kind]:.2f}" for kind in ("refused", "stored", "woken"))
 
 
 def resident(server):
