@@ -7,14 +7,12 @@ from __future__ import annotations
 
 import asyncio
 import os
-import weakref
 from contextlib import suppress
 from typing import Callable, Optional, cast
 
 from . import _frames as frames
 from ._attachment import READY
-from ._carrier import FAREWELL, FIRST_PAUSE, LONGEST_PAUSE, Carrier
-from ._core import Core
+from ._carrier import FAREWELL, FIRST_PAUSE, LONGEST_PAUSE, Carrier, carriers
 
 
 def now() -> float:
@@ -24,12 +22,9 @@ def now() -> float:
 class AsyncWorker(Carrier):
     """In one event loop."""
 
-    def __init__(self, path: str, core: Core, is_temporary: bool, waits_for_server: bool) -> None:
-        super().__init__(path, core, is_temporary, waits_for_server)
-        self.transport: Optional[asyncio.Transport] = None
-        self.connecting: Optional[asyncio.Task[None]] = None
-        self._timer: Optional[asyncio.TimerHandle] = None
-        workers.add(self)
+    transport: Optional[asyncio.Transport] = None
+    connecting: Optional[asyncio.Task[None]] = None
+    _timer: Optional[asyncio.TimerHandle] = None
 
     def start(self) -> None:
         self.changed = asyncio.Event()
@@ -204,9 +199,7 @@ class _Connection(asyncio.Protocol):
             self._transport.abort()
 
 
-workers: weakref.WeakSet[AsyncWorker] = weakref.WeakSet()
-
-
 def at_exit() -> None:
-    for worker in list(workers):
-        worker.abandon()
+    for worker in list(carriers):
+        if isinstance(worker, AsyncWorker):
+            worker.abandon()

@@ -17,6 +17,7 @@ from typing import Any, Callable, List, Optional, Type
 from . import _errors as errors, _registry as registry, _worker as worker, requests
 from ._arguments import DEFAULT, Choice, Key, Timeout, numbers, request_of
 from ._calls import Asking, Calls, Concatenate, ForThreads, P
+from ._core import Core
 from ._holdings import ACCESS
 from ._jobs import Batch, Job, Last, Present, T, Ticket, Wait, nobody, result_of
 from .requests import Request
@@ -79,8 +80,8 @@ class Client(Calls, ForThreads):
             raise
 
     def _make(self, choice: Choice) -> None:
-        self._core = core = choice.core(time.monotonic)
-        self._worker = Worker(self.path, core, choice.pause, choice.is_temporary, choice.waits_for_server)
+        self._core = core = Core(choice)
+        self._worker = Worker(core, choice)
         self._ask = self._worker.ask
         if choice.is_temporary:
             registry.sweep(self.path, partial(end_session, self.path))

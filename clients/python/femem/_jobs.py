@@ -98,8 +98,6 @@ def outcomes_of(tickets: Sequence[Ticket[Any]]) -> List[Any]:
 class Last:
     """Called as a ticket is done. It goes on to the next one that is not, and calls `done` behind the last one."""
 
-    __slots__ = ("_left", "_done")
-
     def __init__(self, tickets: Sequence[Ticket[Any]], done: Callable[[], None]) -> None:
         """Before the tickets are asked. There is at least one."""
         self._left = iter(tickets)
@@ -212,6 +210,15 @@ class Mended(Generator[Step, Any, T]):
 
     def throw(self, error: Any, *more: Any) -> Step:
         return self._steps.throw(error, *more)
+
+
+def batch(asked: Sequence[Request[Any]], *allowed: type, key: Optional[bytes] = None) -> Steps[List[Any]]:
+    """Sends them together. Raises errors that are not allowed."""
+    outcomes: List[Any] = (yield Batch(asked, key)) if asked else []
+    for outcome in outcomes:
+        if isinstance(outcome, BaseException) and not isinstance(outcome, allowed):
+            raise outcome
+    return outcomes
 
 
 def first_of(asked: Sequence[Request[Any]], seconds: Optional[float]) -> Steps[Dict[int, Any]]:

@@ -10,8 +10,8 @@ from . import _frames as frames, requests
 from ._arguments import Key, seconds_of
 from ._errors import FememError, NoArray, NotNow, NotOwner, TimedOut
 from ._holdings import Hold, Read, Release
-from ._jobs import Look, Mended, Steps, Ticket, Wait
-from ._operations import FIRST_LOOK, LAST_LOOK, Absence, Pattern, Tries, batch, done_at, is_full, marked_array
+from ._jobs import Look, Mended, Steps, Ticket, Wait, batch
+from ._operations import FIRST_LOOK, LAST_LOOK, Absence, Pattern, Tries, done_at, is_full, marked_array
 from ._operations import operation, operation_with, shared_array, size_of
 from .requests import Array, Request, add, empty, fill, look
 
@@ -302,7 +302,7 @@ class Lock(Owned):
 
     @operation
     def break_(self) -> Steps[bool]:
-        """Frees the lock, whoever holds it, and returns whether this call did. The owner's `release` raises `NotOwner`."""
+        """Frees the lock, whoever holds it, and returns whether this call did. Who held it gets `NotOwner` at the release."""
         return (yield from self._break())
 
 
@@ -410,7 +410,9 @@ class ReadWriteLock(Owned, Generic[K]):
                 seat = yield from self._sit(array, end, patience)
                 if seat is None:
                     return False
-            if not (yield from self._turn(array, seat, end, patience)):
+            # Fills the word OWNER, or gives the seat back.
+            owns = super()._own(array, end, False, patience, Tries(self._core, None, frames.WRITEEF, self._session))
+            if not (yield from self._or_else(owns, partial(self._stand_up, array, seat, False))):
                 return False
             if (yield from self._read(array, seat, read)):
                 return True
@@ -435,12 +437,6 @@ class ReadWriteLock(Owned, Generic[K]):
                 return seat
             except TimedOut:
                 self._next_seat, pause = self._next_seat + 1, min(2 * pause, self._pause(patience))
-
-    def _turn(self, array: Array, seat: Optional[int], end: Optional[float], patience: Optional[float]) -> Steps[bool]:
-        """Fills the word OWNER, or gives the seat back."""
-        tries = Tries(self._core, None, frames.WRITEEF, self._session)
-        owns = super()._own(array, end, False, patience, tries)
-        return (yield from self._or_else(owns, lambda: self._stand_up(array, seat, False)))
 
     @staticmethod
     def _or_else(steps: Steps[bool], undo: Callable[[], Steps[Any]]) -> Steps[bool]:
@@ -588,10 +584,7 @@ class ReadWriteLock(Owned, Generic[K]):
             except NoArray:
                 self._array = None  # it was broken
 
-    @operation
-    def break_(self) -> Steps[bool]:
-        """Frees the lock, whoever holds it. Those who hold it find out when they release it."""
-        return (yield from self._break())
+    break_ = Lock.break_
 
 
 class Turn(Pattern):

@@ -14,7 +14,7 @@ from ._arguments import Key, key_bytes, seconds_of
 from ._calls import Concatenate, P, faced
 from ._core import Core
 from ._errors import NameTaken, NoArray, NotNow, OtherPattern
-from ._jobs import Batch, Pause, Present, Steps, T, Ticket, Wait
+from ._jobs import Pause, Present, Steps, T, Ticket, Wait, batch
 from ._reports import Report
 from .requests import Array, Request, fill, look, number_of_bits
 
@@ -122,15 +122,6 @@ def operation_with(
 
 
 # Steps that many patterns have.
-
-
-def batch(asked: Sequence[Request[Any]], *allowed: type, key: Optional[bytes] = None) -> Steps[List[Any]]:
-    """Sends them together. Raises errors that are not allowed."""
-    outcomes: List[Any] = (yield Batch(asked, key)) if asked else []
-    for outcome in outcomes:
-        if isinstance(outcome, BaseException) and not isinstance(outcome, allowed):
-            raise outcome
-    return outcomes
 
 
 def shared_array(name: str, length: int, full: bool) -> Steps[Array]:

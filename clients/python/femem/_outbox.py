@@ -29,6 +29,13 @@ _OF_CALL = (frames.BELOW_FLOOR, frames.BEYOND_WINDOW, frames.NUMBER_USED, frames
 _OF_SETTLE = (frames.BELOW_FLOOR, frames.BEYOND_WINDOW, frames.STILL_WAITING, frames.SPENT)
 
 
+def _waiting(window: Window[Ticket[Any]]) -> List[Ticket[Any]]:
+    """The requests that are known to wait: they did before they were moved, or a later number was answered."""
+    answered = max(window.answers, default=0)
+    known = [ticket for number, ticket in window.unanswered.items() if number < answered or ticket.has_moved]
+    return [ticket for ticket in known if not ticket.must_end()]
+
+
 class Outbox:
     """Appends what it sends to `to_send`, and tickets that end to `ended`. There is no window, and nothing is
     sent, until `begin`. Requests that would wait go to `moved`, if it is a list."""
@@ -135,15 +142,9 @@ class Outbox:
         return False
 
     def only_waits(self) -> bool:
-        """Whether all that is under way waits: it did before it was moved, or a later number was answered."""
+        """Whether all that is under way waits."""
         window = self.window
-        if self._queue or window is None:
-            return False
-        answered = max(window.answers, default=0)
-        for number, ticket in window.unanswered.items():
-            if ticket.must_end() or number > answered and not ticket.has_moved:
-                return False
-        return True
+        return window is not None and not self._queue and len(_waiting(window)) == len(window.unanswered)
 
     def owed(self) -> List[float]:
         """The times since when the server owes replies."""
@@ -182,7 +183,8 @@ class Outbox:
             self._send_queue(window, now)
             floor = window.next_floor()
         if self.may_grow and len(window.unanswered) > _CROWD:
-            self.is_crowded = self._is_crowded(window)
+            # While others are answered: the oldest one waits.
+            self.is_crowded = len(_waiting(window)) > _CROWD and not next(iter(window.unanswered.values())).must_end()
         # What waits gets new numbers before the room is used up, so that no other request waits for that.
         # (What has moved is known to wait: the others in the queue were not sent yet.)
         for ticket in self.in_the_way():
@@ -190,14 +192,6 @@ class Outbox:
                 self._cancel(ticket, now)
         for ticket in window.holding():
             self._cancel(ticket, now)
-
-    def _is_crowded(self, window: Window[Ticket[Any]]) -> bool:
-        """Whether many requests wait while others are answered."""
-        if next(iter(window.unanswered.values())).must_end():
-            return False
-        answered = max(window.answers, default=0)
-        waiting = [ticket.must_end() for number, ticket in window.unanswered.items() if number < answered or ticket.has_moved]
-        return waiting.count(False) > _CROWD
 
     def move_waits(self, moved: Optional[List[Ticket[Any]]], now: float) -> None:
         """From now on, requests that would wait go there, and those that do; or with `None` nowhere."""

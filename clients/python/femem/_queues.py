@@ -15,8 +15,8 @@ from typing import Any, Callable, Deque, List, Optional, Sequence, Tuple
 from . import requests
 from ._arguments import Key
 from ._errors import NoArray, NotNow, TimedOut, Withdrawn
-from ._jobs import Batch, First, Steps, Wait
-from ._operations import FIRST_LOOK, LAST_LOOK, Pattern, Tries, batch, is_full, left, marked_array, once, operation_with, size_of
+from ._jobs import Batch, First, Steps, Wait, batch
+from ._operations import FIRST_LOOK, LAST_LOOK, Pattern, Tries, is_full, left, marked_array, once, operation_with, size_of
 from ._frames import INT_FETCH_ADD, READFE, READFF, WRITEEF
 from .requests import Array, Request, empty, fill, look, made, made_before, number_of_bits
 

@@ -9,8 +9,8 @@ from . import _frames as frames
 from ._arguments import Key
 from ._errors import NoArray, NotNow, NotOwner, TimedOut
 from ._holdings import Hold, Release
-from ._jobs import Mended, Steps, Ticket
-from ._operations import FIRST_LOOK, LAST_LOOK, Pattern, Tries, batch, done_at, is_full
+from ._jobs import Mended, Steps, Ticket, batch
+from ._operations import FIRST_LOOK, LAST_LOOK, Pattern, Tries, done_at, is_full
 from ._operations import marked_array, operation, operation_with, size_of
 from .requests import Array, add, empty, fill, look
 from ._queues import HEAD, SLOTS, TAIL, TRUST, Ring

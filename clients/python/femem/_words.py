@@ -8,8 +8,8 @@ from typing import Any, Optional, Tuple
 from . import requests
 from ._arguments import Key
 from ._errors import BrokenBarrier, NameTaken, NoArray, NotNow, OtherPattern, TimedOut
-from ._jobs import Steps, Wait, first_of
-from ._operations import Pattern, batch, is_full, once
+from ._jobs import Steps, Wait, batch, first_of
+from ._operations import Pattern, is_full, once
 from ._operations import operation, operation_with, shared_array, size_of
 from .requests import Array, add, empty, fill, look
 

@@ -18,7 +18,7 @@ import os
 import warnings
 import weakref
 from functools import partial
-from typing import TYPE_CHECKING, Any, Awaitable, Callable, Coroutine, Optional, Sequence, Type, TypeVar
+from typing import Any, Awaitable, Callable, Optional, Sequence, Type, TypeVar
 
 from . import _aioworker as aioworker, _errors as errors, _keylocks as keylocks, _locks as locks
 from . import _operations as operations, _queues as queues, _registry as registry, _semaphore as semaphore
@@ -28,6 +28,7 @@ from ._arguments import DEFAULT, Choice, Key, Timeout, request_of, seconds_of
 from ._calls import Asking, Calls, ForTasks, show_as
 from ._carrier import NOT_HERE
 from ._client import end_session
+from ._core import Core
 from ._jobs import Job, Last, T, Ticket, nobody
 from .requests import Array, Request, number_of_bits
 from ._sessionfile import SessionFile
@@ -48,8 +49,8 @@ class AsyncClient(Calls, ForTasks):
 
     def _make(self, choice: Choice) -> None:
         self._choice = choice
-        self._core = choice.core(now)
-        self._worker = AsyncWorker(choice.path, self._core, choice.is_temporary, choice.waits_for_server)
+        self._core = Core(choice, now)
+        self._worker = AsyncWorker(self._core, choice)
         self._may_grow(choice, AsyncClient._grown)
         self.recovered = []
 
@@ -367,7 +368,7 @@ class JobLoop(work.Loop[WorkJob]):
         return self._job
 
 
-class WorkQueue(Awaiting, work.WorkQueue):
+class WorkQueue(Awaiting, work.WorkQueue[WorkJob]):
     JOB = WorkJob
 
     def jobs(self, timeout: Optional[float] = None) -> JobLoop:
@@ -377,11 +378,6 @@ class WorkQueue(Awaiting, work.WorkQueue):
     def __aiter__(self) -> JobLoop:
         """`async for job in queue:` takes job after job, without end."""
         return self.jobs()
-
-    if TYPE_CHECKING:
-
-        def take(self, timeout: Optional[float] = None) -> Coroutine[Any, Any, WorkJob]:  # type: ignore[override]
-            ...
 
 
 async def shared_array(client: AsyncClient, name: str, length: int, full: bool) -> Array:
