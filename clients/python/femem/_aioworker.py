@@ -85,7 +85,7 @@ class AsyncWorker(Carrier):
             return
         time = self.core.next_time()
         if time is not None and time != float("inf"):
-            self._timer = asyncio.get_running_loop().call_at(time, self._tick)
+            self._timer = asyncio.get_running_loop().call_at(time, self.ask, self.core.tick)
 
     def _flush(self) -> None:
         self._prepare()
@@ -103,10 +103,6 @@ class AsyncWorker(Carrier):
             if inherited is not None:
                 inherited.close()
             self.transport = None
-
-    def _tick(self) -> None:
-        self.core.tick(now())
-        self.move()
 
     async def _keep_connected(self) -> None:
         """Connects, and reconnects when the connection breaks, until the client or its event loop ends."""
@@ -161,8 +157,7 @@ class AsyncWorker(Carrier):
             connection.close()
         if is_cancelled:
             raise asyncio.CancelledError
-        self.core.disconnected(now())
-        self.move()
+        self.ask(self.core.disconnected)
 
     async def _sleep(self, seconds: float) -> None:
         with suppress(asyncio.TimeoutError):
@@ -180,8 +175,7 @@ class _Connection(asyncio.Protocol):
     def connection_made(self, transport: asyncio.BaseTransport) -> None:
         worker = self._worker
         self._transport = worker.transport = cast(asyncio.Transport, transport)
-        worker.core.connected(now())
-        worker.move()
+        worker.ask(worker.core.connected)
 
     def data_received(self, data: bytes) -> None:
         worker = self._worker

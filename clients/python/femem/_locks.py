@@ -11,8 +11,8 @@ from ._arguments import Key, seconds_of
 from ._errors import FememError, NoArray, NotNow, NotOwner, TimedOut
 from ._holdings import Hold, Read, Release
 from ._jobs import Look, Mended, Steps, Ticket, Wait, batch
-from ._operations import FIRST_LOOK, LAST_LOOK, Absence, Pattern, Tries, done_at, is_full, marked_array
-from ._operations import operation, operation_with, shared_array, size_of
+from ._operations import FIRST_LOOK, LAST_LOOK, Absence, Pattern, Tries, done_at, is_full
+from ._operations import operation, operation_with, size_of
 from .requests import Array, Request, add, empty, fill, look
 
 K = TypeVar("K", bound="Turn")
@@ -29,12 +29,9 @@ class Owned(Pattern):
     COUNTS: Tuple[int, ...] = (COUNT,)
     MOVES = False  # whether it may go on at another word, so that who waits looks where it is
     REQUESTS = {"acquire": (9, 14), "campaign": (9, 14), "try_acquire": (9, 0), "release": (6, 0), "resign": (6, 0)}
-
-    def __init__(self, client: Any, name: str) -> None:
-        super().__init__(client, name)
-        self._generation: Optional[int] = None
-        self._broke: Optional[int] = None
-        self._adopted = False
+    _generation: Optional[int] = None
+    _broke: Optional[int] = None
+    _adopted = False
 
     @property
     def generation(self) -> Optional[int]:
@@ -59,9 +56,6 @@ class Owned(Pattern):
             if not any(isinstance(each, NoArray) for each in filled):  # nobody broke it in between
                 self._array = array
         return self._array
-
-    def _make(self) -> Steps[Array]:
-        return (yield from shared_array(self._name, self.LENGTH, False))
 
     def _begin(self) -> Steps[Array]:
         """Finds it, and what an earlier process of this session left there."""
@@ -350,6 +344,7 @@ class ReadWriteLock(Owned, Generic[K]):
         super().__init__(client, name)
         self._seats = range(self.SEATS, self.SEATS + min(size_of(readers, "readers"), 64))
         self._next_seat = self._session
+        self.LENGTH = self._seats.stop
         first = 26 + 2 * len(self._seats)
         self.REQUESTS = {"acquire_read": (first, first), "release_read": (4, 0), "release_write": (1, 0)}
         self.REQUESTS["acquire_write"] = (first - 1, first)
@@ -362,9 +357,6 @@ class ReadWriteLock(Owned, Generic[K]):
     def write(self, timeout: Optional[float] = None, *, takeover_after: Optional[float] = None) -> K:
         """A `with` or `async with` block that writes. `TimedOut` as it begins if it may not in time."""
         return self.TURN(self._client, self, True, timeout, takeover_after)
-
-    def _make(self) -> Steps[Array]:
-        return (yield from marked_array(self._name, self._seats.stop, self.MARK))
 
     def _session_words(self) -> Sequence[int]:
         return (self.OWNER, *self._seats)

@@ -32,7 +32,6 @@ class WorkJob(Pattern):
     """A job that this client has. `number` names it for ever. `attempt` counts from 1."""
 
     REQUESTS = {"done": (5, 0), "fail": (3, 0), "move": (80, 4 * PAGES)}
-    _array: Optional[Array] = None
 
     def __init__(self, queue: WorkQueue[Any], number: int, value: int, attempt: int) -> None:
         self._client = queue._client

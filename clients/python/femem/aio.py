@@ -29,7 +29,7 @@ from ._calls import Asking, Calls, ForTasks, show_as
 from ._carrier import NOT_HERE
 from ._client import end_session
 from ._core import Core
-from ._jobs import Job, Last, T, Ticket, nobody
+from ._jobs import Job, Last, T, Ticket
 from .requests import Array, Request, number_of_bits
 from ._sessionfile import SessionFile
 
@@ -51,6 +51,7 @@ class AsyncClient(Calls, ForTasks):
         self._choice = choice
         self._core = Core(choice, now)
         self._worker = AsyncWorker(self._core, choice)
+        self._ask = self._worker.ask
         self._may_grow(choice, AsyncClient._grown)
         self.recovered = []
 
@@ -142,9 +143,6 @@ class AsyncClient(Calls, ForTasks):
         self._worker.move()
         return future
 
-    def _ask(self, what: Callable[[float], object]) -> None:
-        self._worker.ask(what)
-
     def _catch_up(self) -> None:
         pass  # it was done at once
 
@@ -172,8 +170,7 @@ class AsyncClient(Calls, ForTasks):
         """Runs an operation of several steps. A task that is cancelled takes it back, or gets the result if it is done."""
         self._check_use(in_any_case=job.gives_back)
         future = self._future(job)
-        self._core.start(job, now())
-        self._worker.move()
+        self._ask(partial(self._core.start, job))
         return await self._told((job,), future)
 
     async def _told(self, tickets: Sequence[Ticket[Any]], future: asyncio.Future[T]) -> T:
@@ -220,23 +217,12 @@ class AsyncClient(Calls, ForTasks):
     def _future(self, ticket: Ticket[T]) -> asyncio.Future[T]:
         future: asyncio.Future[Any] = asyncio.get_running_loop().create_future()
 
-        def finished() -> None:
-            ticket.finished = nobody  # nothing holds itself
-            if future.cancelled():
-                return
-            if ticket.error is not None:
-                future.set_exception(ticket.error)
-            else:
-                future.set_result(ticket.result)
-
         def cancelled(future: asyncio.Future[Any]) -> None:
             if future.cancelled() and not ticket.done:
                 self._take_back((ticket,), True)
 
-        ticket.finished = finished
         future.add_done_callback(cancelled)
-        future.asked = (self._core, ticket)  # type: ignore[attr-defined]
-        return future
+        return self._ending_with(ticket, future)
 
 
 def _is_owed(task: Any) -> bool:
