@@ -14,8 +14,8 @@ from typing import Any, Callable, ClassVar, Dict, Generator, Generic, List, Opti
 
 from . import _reports as reports
 from ._errors import ANSWER_ERRORS, FememError, ProtocolError, Withdrawn
-from ._frames import DONE, VALUE, Answer
-from .requests import NOTHING, Array, Request, purge, read_done, read_value, readff
+from ._frames import ARRAY, VALUE, Answer
+from .requests import NOTHING, Array, Request, purge, readff
 
 T = TypeVar("T")
 
@@ -67,11 +67,11 @@ class Ticket(Generic[T]):
     def end_by(self, answer: Answer) -> None:
         """Ends it by its answer. `ProtocolError` is raised too, if that can't be the answer to its request."""
         request, code = self.request, answer.code
-        if code == VALUE and request.read is read_value:
-            self.result = answer.value  # type: ignore[assignment]
+        if code == request.gives and code != ARRAY:
+            self.result = answer.value if code == VALUE else None  # type: ignore[assignment]
         elif code in ANSWER_ERRORS:
             self.error = ANSWER_ERRORS[code](request)
-        elif code != DONE or request.read is not read_done:
+        else:
             try:
                 self.result = request.read(answer)
             except ProtocolError as error:

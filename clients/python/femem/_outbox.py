@@ -9,7 +9,7 @@ from . import _errors as errors, _frames as frames
 from ._errors import ProtocolError
 from .events import Events
 from ._frames import NOWAIT, Answer, append_under, pack_number
-from .requests import of_frame, read_done, read_value
+from .requests import of_frame
 from ._sessionfile import SessionFile
 from ._sessionstate import Asked, Contradiction
 from ._jobs import Ticket
@@ -396,8 +396,7 @@ class Outbox:
                 return at, is_heard
             number, code, value, _ = answer
             ticket = unanswered.get(number) if is_plain else None
-            read = ticket.request.read if ticket is not None else None
-            if ticket is not None and (code == frames.VALUE and read is read_value or code == frames.DONE and read is read_done):
+            if ticket is not None and code == ticket.request.gives and code != frames.ARRAY:
                 # As `answered`, for nearly all there are.
                 del unanswered[number]
                 kept[number] = answer
