@@ -212,19 +212,17 @@ class Worker(Carrier):
         self._woken.close()
 
     def _connect(self) -> Optional[socket.socket]:
+        connection: Optional[socket.socket] = None
         try:
             connection = socket.socket(socket.AF_UNIX, socket.SOCK_STREAM)
-        except OSError as error:
-            self.core.trouble = f"{self.path}: {error.strerror}"  # too many files are open
-            return None
-        try:
             connection.settimeout(_CONNECT_TIME)
             connection.connect(self.path)
             # Blocking, since callers read too; the thread itself never waits here.
             connection.settimeout(None)
             connection.setsockopt(socket.SOL_SOCKET, socket.SO_RCVTIMEO, _TIMEVAL.pack(0, int(1e6 * READ_TIME)))
-        except OSError as error:
-            connection.close()
+        except OSError as error:  # also: too many files are open
+            if connection is not None:
+                connection.close()
             self._not_connected(error)
             return None
         self._has_connected = True
