@@ -182,11 +182,7 @@ class Owned(Pattern):
         return int(owner) if is_full(owner) else None
 
     def _owner(self) -> Steps[Optional[int]]:
-        while True:
-            try:
-                return (yield from self._owner_of((yield from self._find())))
-            except NoArray:
-                self._array = None
+        return self._with_array(self._owner_of)
 
     def _giving(self) -> Steps[None]:
         release = Release()
@@ -567,14 +563,12 @@ class ReadWriteLock(Owned, Generic[K]):
     @operation
     def owners(self) -> Steps[Tuple[Optional[int], List[int]]]:
         """The session of the writer, or `None`, and those of the clients that read."""
-        while True:
-            array = yield from self._find()
-            try:
-                writer = yield from self._owner_of(array)
-                (bits,) = yield from batch([look(array, self.READERS)])
-                return writer, [*(yield from self._holders(array, self._reading(bits))).values()]
-            except NoArray:
-                self._array = None  # it was broken
+        return (yield from self._with_array(self._owners_of))
+
+    def _owners_of(self, array: Array) -> Steps[Tuple[Optional[int], List[int]]]:
+        writer = yield from self._owner_of(array)
+        (bits,) = yield from batch([look(array, self.READERS)])
+        return writer, [*(yield from self._holders(array, self._reading(bits))).values()]
 
     break_ = Lock.break_
 

@@ -68,6 +68,14 @@ class Pattern:
             return marked_array(self._name, self.LENGTH, self.MARK, self.FIRST)
         return shared_array(self._name, self.LENGTH, self.IS_FULL)
 
+    def _with_array(self, does: Callable[[Array], Steps[T]]) -> Steps[T]:
+        """What it does with the array, or with the next one if that is removed meanwhile."""
+        while True:
+            try:
+                return (yield from does((yield from self._find())))
+            except NoArray:
+                self._array = None
+
     def _show(self) -> Steps[Array]:
         """Makes this client wait where reports show it."""
         if self._presence is None:
