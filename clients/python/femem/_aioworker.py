@@ -7,14 +7,12 @@ from __future__ import annotations
 
 import asyncio
 import os
-import weakref
 from contextlib import suppress
 from typing import Callable, Optional, cast
 
 from . import _frames as frames
 from ._attachment import READY
-from ._carrier import FAREWELL, FIRST_PAUSE, LONGEST_PAUSE, Carrier
-from ._core import Core
+from ._carrier import FAREWELL, FIRST_PAUSE, LONGEST_PAUSE, Carrier, carriers
 
 
 def now() -> float:
@@ -24,12 +22,9 @@ def now() -> float:
 class AsyncWorker(Carrier):
     """In one event loop."""
 
-    def __init__(self, path: str, core: Core, is_temporary: bool, waits_for_server: bool) -> None:
-        super().__init__(path, core, is_temporary, waits_for_server)
-        self.transport: Optional[asyncio.Transport] = None
-        self.connecting: Optional[asyncio.Task[None]] = None
-        self._timer: Optional[asyncio.TimerHandle] = None
-        workers.add(self)
+    transport: Optional[asyncio.Transport] = None
+    connecting: Optional[asyncio.Task[None]] = None
+    _timer: Optional[asyncio.TimerHandle] = None
 
     def start(self) -> None:
         self.changed = asyncio.Event()
@@ -90,7 +85,7 @@ class AsyncWorker(Carrier):
             return
         time = self.core.next_time()
         if time is not None and time != float("inf"):
-            self._timer = asyncio.get_running_loop().call_at(time, self._tick)
+            self._timer = asyncio.get_running_loop().call_at(time, self.ask, self.core.tick)
 
     def _flush(self) -> None:
         self._prepare()
@@ -108,10 +103,6 @@ class AsyncWorker(Carrier):
             if inherited is not None:
                 inherited.close()
             self.transport = None
-
-    def _tick(self) -> None:
-        self.core.tick(now())
-        self.move()
 
     async def _keep_connected(self) -> None:
         """Connects, and reconnects when the connection breaks, until the client or its event loop ends."""
@@ -166,8 +157,7 @@ class AsyncWorker(Carrier):
             connection.close()
         if is_cancelled:
             raise asyncio.CancelledError
-        self.core.disconnected(now())
-        self.move()
+        self.ask(self.core.disconnected)
 
     async def _sleep(self, seconds: float) -> None:
         with suppress(asyncio.TimeoutError):
@@ -185,8 +175,7 @@ class _Connection(asyncio.Protocol):
     def connection_made(self, transport: asyncio.BaseTransport) -> None:
         worker = self._worker
         self._transport = worker.transport = cast(asyncio.Transport, transport)
-        worker.core.connected(now())
-        worker.move()
+        worker.ask(worker.core.connected)
 
     def data_received(self, data: bytes) -> None:
         worker = self._worker
@@ -204,9 +193,7 @@ class _Connection(asyncio.Protocol):
             self._transport.abort()
 
 
-workers: weakref.WeakSet[AsyncWorker] = weakref.WeakSet()
-
-
 def at_exit() -> None:
-    for worker in list(workers):
-        worker.abandon()
+    for worker in list(carriers):
+        if isinstance(worker, AsyncWorker):
+            worker.abandon()

@@ -5,9 +5,8 @@ from __future__ import annotations
 import hashlib
 import math
 import os
-from typing import Any, Callable, List, NamedTuple, Optional, Union
+from typing import Any, List, NamedTuple, Optional, Union
 
-from ._core import Core
 from .events import OnEvent
 from .requests import Request
 from ._sessionfile import SessionFile
@@ -84,17 +83,13 @@ class Choice(NamedTuple):
 
     path: str
     session: int
-    file: Optional[SessionFile]
-    is_temporary: bool
-    sessions: int
-    patience: Optional[float]
-    pause: float
-    waits_for_server: bool
-    on_event: Optional[OnEvent]
-
-    def core(self, clock: Callable[[], float]) -> Core:
-        moves_waits, patience, pause, file = self.sessions > 1, self.patience, self.pause, self.file
-        return Core(self.session, patience, pause, file, clock, moves_waits, self.is_temporary, self.on_event)
+    file: Optional[SessionFile] = None
+    is_temporary: bool = False
+    sessions: int = 1
+    patience: Optional[float] = None
+    pause: float = 5.0
+    waits_for_server: bool = False
+    on_event: Optional[OnEvent] = None
 
     def further(self, number: int) -> Choice:
         return self._replace(session=number, file=None, is_temporary=False, sessions=1, waits_for_server=True)

@@ -13,6 +13,7 @@ import random
 from typing import Callable, Iterator, List, Optional, Set
 
 from . import _errors as errors, _frames as frames
+from ._arguments import Choice
 from ._errors import ProtocolError
 from .events import Events, log
 from ._outbox import Outbox
@@ -135,11 +136,8 @@ class Attachment:
     _opening: Optional[Ticket[None]] = None
     _asked_at = 0.0  # since when something is asked and not done
 
-    def __init__(
-        self, session: int, outbox: Outbox, events: Optional[Events], reconnect_timeout: Optional[float],
-        probe_interval: float, is_own: bool,
-    ) -> None:
-        self.session = session
+    def __init__(self, choice: Choice, outbox: Outbox, events: Optional[Events]) -> None:
+        self.session = choice.session
         self.phase = DOWN
         # Why the last attempt to connect failed, if it did. The client sets it.
         self.trouble = ""
@@ -148,10 +146,10 @@ class Attachment:
         self.to_send = outbox.to_send
         self._outbox = outbox
         # Whether nobody else is given this session: then another connection that has it is a late one of a former client.
-        self._is_own = is_own
+        self._is_own = choice.is_temporary or choice.file is not None
         self._fights = 0
-        self._reconnect_timeout = float("inf") if reconnect_timeout is None else reconnect_timeout
-        self._probe_interval = probe_interval
+        self._reconnect_timeout = float("inf") if choice.patience is None else choice.patience
+        self._probe_interval = choice.pause
         self._probes = itertools.count(FIRST_PROBE)
         # What the program wants to know of, and since when it has been as it is: connecting, or attached.
         self.events = events

@@ -20,7 +20,7 @@ from ._arguments import DEFAULT, MOST, Choice, Key, Path, Timeout, key_bytes, pa
 from ._core import Core
 from ._errors import FememError
 from .events import OnEvent
-from ._jobs import Job, T, Ticket, first_of, outcomes_of, result_of
+from ._jobs import Job, T, Ticket, first_of, nobody, outcomes_of, result_of
 from ._reports import Report
 from .requests import Array, ArrayLike, Request, number_of_bits
 from ._sessionfile import SessionFile
@@ -37,6 +37,7 @@ else:
 
 C = TypeVar("C", bound="Calls")
 D = TypeVar("D", bound="faced[Any, Any]")
+F = TypeVar("F", "Future[Any]", "asyncio.Future[Any]")
 
 
 class ForThreads:
@@ -342,6 +343,22 @@ class Calls:
     _ask: Callable[[Callable[[float], object]], None]
     _catch_up: Callable[[], None]  # returns once what was asked before is done
     _future: Callable[[Ticket[Any]], Any]  # the future of a ticket
+
+    def _ending_with(self, ticket: Ticket[Any], future: F) -> F:
+        """The future, which ends like the ticket."""
+
+        def finished() -> None:
+            ticket.finished = nobody  # nothing holds itself
+            if future.cancelled():
+                return
+            if ticket.error is not None:
+                future.set_exception(ticket.error)
+            else:
+                future.set_result(ticket.result)
+
+        ticket.finished = finished
+        future.asked = (self._core, ticket)  # type: ignore[attr-defined]
+        return future
 
     def _keyed(self, key: Key, request: Request[T]) -> Ticket[T]:
         self._with_file()

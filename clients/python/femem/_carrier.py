@@ -14,6 +14,7 @@ from threading import get_ident
 from typing import Any, Callable, Dict, Iterator, Optional, Sequence
 
 from . import _errors as errors, _registry as registry
+from ._arguments import Choice
 from ._attachment import ENDED
 from ._core import Core
 from .events import log
@@ -36,12 +37,11 @@ _DENIED = 1.0
 
 
 # Those of this process. Its children close the ones that they inherit.
-_carriers: weakref.WeakSet[Carrier] = weakref.WeakSet()
+carriers: weakref.WeakSet[Carrier] = weakref.WeakSet()
 
 
 class Carrier:
-    """A core with its connection. `is_temporary`: its session ends with it. `waits`: a server may come to any
-    path that is not too long.
+    """A core with its connection.
 
     The further sessions of a client are for requests that wait. Such a client first makes each request
     without waiting, over its own session, in order. A request that would wait goes to the further session
@@ -52,20 +52,21 @@ class Carrier:
     ask: Callable[[Callable[[float], object]], None]
     own_thread = 0  # the number of the client's own thread while it runs, if it has one
 
-    def __init__(self, path: str, core: Core, is_temporary: bool, waits: bool) -> None:
-        self.path = path
+    def __init__(self, core: Core, choice: Choice) -> None:
+        self.path = choice.path
         self.core = core
-        self.is_temporary = is_temporary
+        self.is_temporary = choice.is_temporary  # whether its session ends with it
         # Whether this process chose the session's number.
-        self.is_chosen = is_temporary
+        self.is_chosen = choice.is_temporary
         self.entry: Optional[registry.Entry] = None
         # The clients of the further sessions, and how many requests each of them has.
         self.wait_sessions: Dict[Any, int] = {}
         # Begins a further session for requests that wait, if the client may have one once many of them do.
         self.further: Optional[Callable[[], Any]] = None
         self.process = os.getpid()
-        _carriers.add(self)
-        self._waits = waits
+        carriers.add(self)
+        # Whether a server may come to any path that is not too long.
+        self._waits = choice.waits_for_server
         # Since when it has had no right to the socket.
         self._denied_at: Optional[float] = None
         self._has_connected = False
@@ -192,7 +193,7 @@ class Carrier:
 
 def _in_child() -> None:
     registry.left.clear()  # the numbers are the parent's
-    for carrier in list(_carriers):
+    for carrier in list(carriers):
         carrier.forked()
 
 

@@ -17,8 +17,9 @@ from typing import Any, Callable, List, Optional, Type
 from . import _errors as errors, _registry as registry, _worker as worker, requests
 from ._arguments import DEFAULT, Choice, Key, Timeout, numbers, request_of
 from ._calls import Asking, Calls, Concatenate, ForThreads, P
+from ._core import Core
 from ._holdings import ACCESS
-from ._jobs import Batch, Job, Last, Present, T, Ticket, Wait, nobody, result_of
+from ._jobs import Batch, Job, Last, Present, T, Ticket, Wait, result_of
 from .requests import Request
 from ._worker import Worker
 
@@ -79,8 +80,8 @@ class Client(Calls, ForThreads):
             raise
 
     def _make(self, choice: Choice) -> None:
-        self._core = core = choice.core(time.monotonic)
-        self._worker = Worker(self.path, core, choice.pause, choice.is_temporary, choice.waits_for_server)
+        self._core = core = Core(choice)
+        self._worker = Worker(core, choice)
         self._ask = self._worker.ask
         if choice.is_temporary:
             registry.sweep(self.path, partial(end_session, self.path))
@@ -279,17 +280,7 @@ class Client(Calls, ForThreads):
     def _future(self, ticket: Ticket[T]) -> Future[T]:
         future: Future[Any] = Future()
         future.set_running_or_notify_cancel()
-
-        def finished() -> None:
-            if ticket.error is not None:
-                future.set_exception(ticket.error)
-            else:
-                future.set_result(ticket.result)
-            ticket.finished = nobody  # nothing holds itself
-
-        ticket.finished = finished
-        future.asked = (self._core, ticket)  # type: ignore[attr-defined]
-        return future
+        return self._ending_with(ticket, future)
 
 
 def _collecting(make: Callable[P, Request[Any]]) -> Callable[Concatenate[Any, P], Pipeline]:

@@ -12,40 +12,36 @@ from collections import deque
 from typing import Any, Callable, Deque, Dict, List, Optional, Sequence, Tuple
 
 from . import _errors as errors, _frames as frames, _reports as reports
+from ._arguments import Choice
 from ._attachment import ATTACHING, DOWN, ENDED, READY, Attachment, unexpected
 from ._errors import ProtocolError
-from .events import Events, OnEvent, log
+from .events import Events, log
 from ._frames import Answer
 from ._holdings import Holdings
 from ._jobs import Job, JobRunner, T, Ticket
 from ._outbox import PATIENCE, Outbox
-from .requests import NOTHING, number_of_bits
-from ._sessionfile import SessionFile
+from .requests import NOTHING
 from ._window import Used
 
 
 class Core(JobRunner, Attachment):
     """One session's requests, over any number of connections. Times are in seconds, of one clock."""
 
-    def __init__(
-        self, session: int, reconnect_timeout: Optional[float], probe_interval: float = 5.0,
-        file: Optional[SessionFile] = None, clock: Callable[[], float] = time.monotonic,
-        moves_waits: bool = False, is_own: bool = False, on_event: Optional[OnEvent] = None,
-    ) -> None:
-        number = number_of_bits(session, 64, "session")
-        events = None if on_event is None else Events(on_event, number)
+    def __init__(self, choice: Choice, clock: Callable[[], float] = time.monotonic) -> None:
+        file = choice.file
+        events = None if choice.on_event is None else Events(choice.on_event, choice.session)
         self.ended: List[Ticket[Any]] = []  # what has ended since `take_ended`
         # The requests that have to wait, for `take_moved`.
         self.moved: List[Ticket[Any]] = []
-        outbox = Outbox(bytearray(), self.ended, file, self.moved if moves_waits else None, events)
-        outbox.may_grow = is_own and not moves_waits
+        self.moves_waits = choice.sessions > 1  # whether requests that wait are made over further sessions
+        outbox = Outbox(bytearray(), self.ended, file, self.moved if self.moves_waits else None, events)
+        outbox.may_grow = choice.is_temporary and not self.moves_waits
         # What a former process with the same session file had no answer for.
         self.recovered: List[Ticket[Any]] = outbox.resume(file) if file is not None and file.state.floor else []
         JobRunner.__init__(self)
-        Attachment.__init__(self, number, outbox, events, reconnect_timeout, probe_interval, is_own or file is not None)
+        Attachment.__init__(self, choice, outbox, events)
         self.file = file
         self.clock = clock
-        self.moves_waits = moves_waits  # whether requests that wait are made over further sessions
         # Once the client has failed: whether the server had ended the session, and whether requests could be sent.
         self.has_left = False
         self.was_ready = False

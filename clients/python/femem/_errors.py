@@ -5,6 +5,10 @@ What each error of the server means, with the limit and the way out, is in `clie
 
 from __future__ import annotations
 
+from typing import TypeVar
+
+E = TypeVar("E", bound="type[AnswerError | Refused]")
+
 # The errors of the server, by their codes of docs/formats.md.
 ANSWER_ERRORS: dict[int, type[AnswerError]] = {}
 REFUSALS: dict[int, type[Refused]] = {}
@@ -14,6 +18,13 @@ _IN_USE = "each client needs a session of its own, and another client uses this 
 
 class FememError(Exception):
     """Any error of this package."""
+
+
+def _saying(error: E, text: str) -> E:
+    """The error with its text, which describes it too where nothing else does."""
+    error._text = text
+    error.__doc__ = error.__doc__ or f"{text[0].upper()}{text[1:]}."
+    return error
 
 
 class AnswerError(FememError):
@@ -26,7 +37,7 @@ class AnswerError(FememError):
 
     def __init_subclass__(cls, code: int = 0, text: str = "") -> None:
         if code:
-            ANSWER_ERRORS[code], cls._text = cls, text
+            ANSWER_ERRORS[code] = _saying(cls, text)
 
     def __str__(self) -> str:
         """Of a request it is made only when it is wanted: patterns look at many words that are not as they need them."""
@@ -41,32 +52,12 @@ class NoArray(AnswerError, code=4, text="there is no such array: 'create' makes 
     """There is no such array. Also the answer to what waits on an array when it is removed."""
 
 
-class BadIndex(AnswerError, code=5, text="the array has fewer words; the first one has the index 0"):
-    """The array has no word of that index."""
-
-
-class NameTaken(AnswerError, code=6, text="there is an array of that name: 'find' finds it"):
-    """Another array has the name."""
-
-
-class ArrayLimit(
-    AnswerError, code=7, text="the server has 64 arrays, which is the most: 'remove' removes one"
-):
-    """There are 64 arrays."""
-
-
-class WordLimit(
-    AnswerError, code=8, text="the arrays would have more than 65536 words in all: 'remove' removes one"
-):
-    """The arrays would have more than 65,536 words."""
-
-
-class BadName(AnswerError, code=9, text="names have a to z, 0 to 9 and _, and 1 to 32 of these"):
-    """A name is 1 to 32 bytes of a-z, 0-9 and `_`."""
-
-
-class BadLength(AnswerError, code=10, text="a length is 1 to 65536"):
-    """An array has 1 to 65,536 words."""
+class BadIndex(AnswerError, code=5, text="the array has fewer words; the first one has the index 0"): ...
+class NameTaken(AnswerError, code=6, text="there is an array of that name: 'find' finds it"): ...
+class ArrayLimit(AnswerError, code=7, text="the server has 64 arrays, which is the most: 'remove' removes one"): ...
+class WordLimit(AnswerError, code=8, text="the arrays would have more than 65536 words in all: 'remove' removes one"): ...
+class BadName(AnswerError, code=9, text="names have a to z, 0 to 9 and _, and 1 to 32 of these"): ...
+class BadLength(AnswerError, code=10, text="a length is 1 to 65536"): ...
 
 
 class NotNow(AnswerError, code=11, text="not now: without 'nowait' it waits"):
@@ -80,19 +71,14 @@ class Refused(FememError):
 
     def __init_subclass__(cls, code: int = 0, text: str = "") -> None:
         if code:
-            REFUSALS[code], cls._text = cls, text
+            REFUSALS[code] = _saying(cls, text)
 
 
-class NotAttached(
-    Refused, code=1, text="each client needs a session of its own, and another client has taken this one"
-):
+class NotAttached(Refused, code=1, text="each client needs a session of its own, and another client has taken this one"):
     """The connection has no session. Calls of this client raise it as `TakenOver`."""
 
 
-class SessionLimit(
-    Refused, code=2, text="the server has 64 sessions, which is the most: 'femem-cli sessions' lists them"
-):
-    """The server keeps 64 sessions, and this one is not among them."""
+class SessionLimit(Refused, code=2, text="the server has 64 sessions, which is the most: 'femem-cli sessions' lists them"): ...
 
 
 class BelowFloor(Refused, code=3, text=_IN_USE):
@@ -107,20 +93,10 @@ class NumberUsed(Refused, code=5, text=_IN_USE):
     """Another request has the number: another client uses the session."""
 
 
-class StillWaiting(Refused, code=6, text="a request has no answer yet: wait for it, or take it back"):
-    """A request has no answer yet."""
-
-
-class Closing(Refused, code=7, text="the session is being ended: use another one"):
-    """The session is being ended; this is not stored yet."""
-
-
-class NoMemory(Refused, code=8, text="the server has no memory for this now: try again later"):
-    """The server has no memory for this now."""
-
-
-class Spent(Refused, code=9, text="the store has no place for further entries, ever: make a new one"):
-    """The server's store has no place for further entries, ever."""
+class StillWaiting(Refused, code=6, text="a request has no answer yet: wait for it, or take it back"): ...
+class Closing(Refused, code=7, text="the session is being ended: use another one"): ...
+class NoMemory(Refused, code=8, text="the server has no memory for this now: try again later"): ...
+class Spent(Refused, code=9, text="the store has no place for further entries, ever: make a new one"): ...
 
 
 class NotWaiting(Refused, code=10, text="nothing waits under that number"):

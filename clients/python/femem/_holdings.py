@@ -5,7 +5,7 @@ from __future__ import annotations
 from typing import Dict, List, Optional, Sequence, Set, Tuple
 
 from ._errors import NotNow
-from ._jobs import Batch, Steps
+from ._jobs import Steps, batch
 from .requests import Array, look
 from ._sessionfile import SessionFile
 
@@ -32,10 +32,7 @@ class Leftovers:
         if looked.issuperset(words):
             return
         words = [word for word in words if word not in looked]
-        found = yield Batch([look(array, word) for word in words])
-        for outcome in found:
-            if isinstance(outcome, BaseException) and not isinstance(outcome, NotNow):
-                raise outcome
+        found = yield from batch([look(array, word) for word in words], NotNow)
         # Of several threads that look, the first one is right: it has not written yet.
         left, looked = self._found.setdefault(array.id, set()), self._looked.setdefault(array.id, set())
         for word, value in zip(words, found):

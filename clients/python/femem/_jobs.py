@@ -14,8 +14,8 @@ from typing import Any, Callable, ClassVar, Dict, Generator, Generic, List, Opti
 
 from . import _reports as reports
 from ._errors import ANSWER_ERRORS, FememError, ProtocolError, Withdrawn
-from ._frames import DONE, VALUE, Answer
-from .requests import NOTHING, Array, Request, purge, read_done, read_value, readff
+from ._frames import ARRAY, VALUE, Answer
+from .requests import NOTHING, Array, Request, purge, readff
 
 T = TypeVar("T")
 
@@ -72,11 +72,11 @@ class Ticket(Generic[T]):
     def end_by(self, answer: Answer) -> None:
         """Ends it by its answer. `ProtocolError` is raised too, if that can't be the answer to its request."""
         request, code = self.request, answer.code
-        if code == VALUE and request.read is read_value:
-            self.result = answer.value  # type: ignore[assignment]
+        if code == request.gives and code != ARRAY:
+            self.result = answer.value if code == VALUE else None  # type: ignore[assignment]
         elif code in ANSWER_ERRORS:
             self.error = ANSWER_ERRORS[code](request)
-        elif code != DONE or request.read is not read_done:
+        else:
             try:
                 self.result = request.read(answer)
             except ProtocolError as error:
@@ -102,8 +102,6 @@ def outcomes_of(tickets: Sequence[Ticket[Any]]) -> List[Any]:
 
 class Last:
     """Called as a ticket is done. It goes on to the next one that is not, and calls `done` behind the last one."""
-
-    __slots__ = ("_left", "_done")
 
     def __init__(self, tickets: Sequence[Ticket[Any]], done: Callable[[], None]) -> None:
         """Before the tickets are asked. There is at least one."""
@@ -217,6 +215,15 @@ class Mended(Generator[Step, Any, T]):
 
     def throw(self, error: Any, *more: Any) -> Step:
         return self._steps.throw(error, *more)
+
+
+def batch(asked: Sequence[Request[Any]], *allowed: type, key: Optional[bytes] = None) -> Steps[List[Any]]:
+    """Sends them together. Raises errors that are not allowed."""
+    outcomes: List[Any] = (yield Batch(asked, key)) if asked else []
+    for outcome in outcomes:
+        if isinstance(outcome, BaseException) and not isinstance(outcome, allowed):
+            raise outcome
+    return outcomes
 
 
 def first_of(asked: Sequence[Request[Any]], seconds: Optional[float]) -> Steps[Dict[int, Any]]:

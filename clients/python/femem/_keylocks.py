@@ -8,9 +8,9 @@ from typing import Any, Dict, Generic, List, Optional, Type, TypeVar, Union
 from . import requests
 from ._arguments import seconds_of
 from ._errors import NoArray, NotNow, NotOwner
-from ._jobs import Steps
+from ._jobs import Steps, batch
 from ._locks import Lock
-from ._operations import batch, is_full, marked_array, operation_with, size_of
+from ._operations import is_full, marked_array, operation_with, size_of
 from .requests import Array, Request, add, empty, fill, look
 
 K = TypeVar("K", bound="KeyLock")

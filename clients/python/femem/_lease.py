@@ -41,10 +41,6 @@ class Lease:
     """Numbers from `first` on, before `end`. What the thread sends to `bell` ends a holder's wait. Without
     one no request waits: it is asked without waiting."""
 
-    __slots__ = (
-        "connection", "decoder", "tickets", "rest", "failure", "is_known", "is_over", "floor", "left", "_shown", "_end", "_bell", "_poll"
-    )  # fmt: skip
-
     def __init__(
         self, connection: socket.socket, decoder: ReplyDecoder, first: int, end: int,
         bell: Optional[socket.socket] = None, floor: int = 0, shown: Optional[Ticket[Any]] = None,

@@ -10,9 +10,9 @@ from . import _frames as frames, requests
 from ._arguments import Key, seconds_of
 from ._errors import FememError, NoArray, NotNow, NotOwner, TimedOut
 from ._holdings import Hold, Read, Release
-from ._jobs import Look, Mended, Steps, Ticket, Wait
-from ._operations import FIRST_LOOK, LAST_LOOK, Absence, Pattern, Tries, batch, done_at, is_full, marked_array
-from ._operations import operation, operation_with, shared_array, size_of
+from ._jobs import Look, Mended, Steps, Ticket, Wait, batch
+from ._operations import FIRST_LOOK, LAST_LOOK, Absence, Pattern, Tries, done_at, is_full
+from ._operations import operation, operation_with, size_of
 from .requests import Array, Request, add, empty, fill, look
 
 K = TypeVar("K", bound="Turn")
@@ -29,12 +29,9 @@ class Owned(Pattern):
     COUNTS: Tuple[int, ...] = (COUNT,)
     MOVES = False  # whether it may go on at another word, so that who waits looks where it is
     REQUESTS = {"acquire": (9, 14), "campaign": (9, 14), "try_acquire": (9, 0), "release": (6, 0), "resign": (6, 0)}
-
-    def __init__(self, client: Any, name: str) -> None:
-        super().__init__(client, name)
-        self._generation: Optional[int] = None
-        self._broke: Optional[int] = None
-        self._adopted = False
+    _generation: Optional[int] = None
+    _broke: Optional[int] = None
+    _adopted = False
 
     @property
     def generation(self) -> Optional[int]:
@@ -59,9 +56,6 @@ class Owned(Pattern):
             if not any(isinstance(each, NoArray) for each in filled):  # nobody broke it in between
                 self._array = array
         return self._array
-
-    def _make(self) -> Steps[Array]:
-        return (yield from shared_array(self._name, self.LENGTH, False))
 
     def _begin(self) -> Steps[Array]:
         """Finds it, and what an earlier process of this session left there."""
@@ -188,11 +182,7 @@ class Owned(Pattern):
         return int(owner) if is_full(owner) else None
 
     def _owner(self) -> Steps[Optional[int]]:
-        while True:
-            try:
-                return (yield from self._owner_of((yield from self._find())))
-            except NoArray:
-                self._array = None
+        return self._with_array(self._owner_of)
 
     def _giving(self) -> Steps[None]:
         release = Release()
@@ -302,7 +292,7 @@ class Lock(Owned):
 
     @operation
     def break_(self) -> Steps[bool]:
-        """Frees the lock, whoever holds it, and returns whether this call did. The owner's `release` raises `NotOwner`."""
+        """Frees the lock, whoever holds it, and returns whether this call did. Who held it gets `NotOwner` at the release."""
         return (yield from self._break())
 
 
@@ -350,6 +340,7 @@ class ReadWriteLock(Owned, Generic[K]):
         super().__init__(client, name)
         self._seats = range(self.SEATS, self.SEATS + min(size_of(readers, "readers"), 64))
         self._next_seat = self._session
+        self.LENGTH = self._seats.stop
         first = 26 + 2 * len(self._seats)
         self.REQUESTS = {"acquire_read": (first, first), "release_read": (4, 0), "release_write": (1, 0)}
         self.REQUESTS["acquire_write"] = (first - 1, first)
@@ -362,9 +353,6 @@ class ReadWriteLock(Owned, Generic[K]):
     def write(self, timeout: Optional[float] = None, *, takeover_after: Optional[float] = None) -> K:
         """A `with` or `async with` block that writes. `TimedOut` as it begins if it may not in time."""
         return self.TURN(self._client, self, True, timeout, takeover_after)
-
-    def _make(self) -> Steps[Array]:
-        return (yield from marked_array(self._name, self._seats.stop, self.MARK))
 
     def _session_words(self) -> Sequence[int]:
         return (self.OWNER, *self._seats)
@@ -410,7 +398,9 @@ class ReadWriteLock(Owned, Generic[K]):
                 seat = yield from self._sit(array, end, patience)
                 if seat is None:
                     return False
-            if not (yield from self._turn(array, seat, end, patience)):
+            # Fills the word OWNER, or gives the seat back.
+            owns = super()._own(array, end, False, patience, Tries(self._core, None, frames.WRITEEF, self._session))
+            if not (yield from self._or_else(owns, partial(self._stand_up, array, seat, False))):
                 return False
             if (yield from self._read(array, seat, read)):
                 return True
@@ -435,12 +425,6 @@ class ReadWriteLock(Owned, Generic[K]):
                 return seat
             except TimedOut:
                 self._next_seat, pause = self._next_seat + 1, min(2 * pause, self._pause(patience))
-
-    def _turn(self, array: Array, seat: Optional[int], end: Optional[float], patience: Optional[float]) -> Steps[bool]:
-        """Fills the word OWNER, or gives the seat back."""
-        tries = Tries(self._core, None, frames.WRITEEF, self._session)
-        owns = super()._own(array, end, False, patience, tries)
-        return (yield from self._or_else(owns, lambda: self._stand_up(array, seat, False)))
 
     @staticmethod
     def _or_else(steps: Steps[bool], undo: Callable[[], Steps[Any]]) -> Steps[bool]:
@@ -579,19 +563,14 @@ class ReadWriteLock(Owned, Generic[K]):
     @operation
     def owners(self) -> Steps[Tuple[Optional[int], List[int]]]:
         """The session of the writer, or `None`, and those of the clients that read."""
-        while True:
-            array = yield from self._find()
-            try:
-                writer = yield from self._owner_of(array)
-                (bits,) = yield from batch([look(array, self.READERS)])
-                return writer, [*(yield from self._holders(array, self._reading(bits))).values()]
-            except NoArray:
-                self._array = None  # it was broken
+        return (yield from self._with_array(self._owners_of))
 
-    @operation
-    def break_(self) -> Steps[bool]:
-        """Frees the lock, whoever holds it. Those who hold it find out when they release it."""
-        return (yield from self._break())
+    def _owners_of(self, array: Array) -> Steps[Tuple[Optional[int], List[int]]]:
+        writer = yield from self._owner_of(array)
+        (bits,) = yield from batch([look(array, self.READERS)])
+        return writer, [*(yield from self._holders(array, self._reading(bits))).values()]
+
+    break_ = Lock.break_
 
 
 class Turn(Pattern):

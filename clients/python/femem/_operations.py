@@ -14,7 +14,7 @@ from ._arguments import Key, key_bytes, seconds_of
 from ._calls import Concatenate, P, faced
 from ._core import Core
 from ._errors import NameTaken, NoArray, NotNow, OtherPattern
-from ._jobs import Batch, Pause, Present, Steps, T, Ticket, Wait
+from ._jobs import Pause, Present, Steps, T, Ticket, Wait, batch
 from ._reports import Report
 from .requests import Array, Request, fill, look, number_of_bits
 
@@ -28,9 +28,14 @@ FIRST_LOOK, LAST_LOOK = 0.05, 1.0
 class Pattern:
     """A pattern of one client. Its array is found or made by the first operation."""
 
-    # How many words its array has, and whether they are made full.
+    # How many words its array has, and whether they are made full; or its mark, and what the words behind that begin with.
     LENGTH = 1
     IS_FULL = False
+    MARK = b""
+    FIRST: Sequence[int] = ()
+    # Its array, and the one at which its client shows that it is there, once they are known.
+    _array: Optional[Array] = None
+    _presence: Optional[Array] = None
     # How many requests its operations ask at most, and how many more for each time that they wait. Those that an array's
     # first use takes are among them: to find or make it, and to see what was left there.
     REQUESTS: Dict[str, Tuple[int, int]] = {}
@@ -47,8 +52,6 @@ class Pattern:
         self._client: Any = client
         self._core: Core = self._client._core
         self._name = name
-        self._array: Optional[Array] = None
-        self._presence: Optional[Array] = None
 
     def __init_subclass__(cls) -> None:
         """A pattern of a face has the text of what both faces have, the last of its bases."""
@@ -57,8 +60,21 @@ class Pattern:
 
     def _find(self) -> Steps[Array]:
         if self._array is None:
-            self._array = yield from shared_array(self._name, self.LENGTH, self.IS_FULL)
+            self._array = yield from self._make()
         return self._array
+
+    def _make(self) -> Steps[Array]:
+        if self.MARK:
+            return marked_array(self._name, self.LENGTH, self.MARK, self.FIRST)
+        return shared_array(self._name, self.LENGTH, self.IS_FULL)
+
+    def _with_array(self, does: Callable[[Array], Steps[T]]) -> Steps[T]:
+        """What it does with the array, or with the next one if that is removed meanwhile."""
+        while True:
+            try:
+                return (yield from does((yield from self._find())))
+            except NoArray:
+                self._array = None
 
     def _show(self) -> Steps[Array]:
         """Makes this client wait where reports show it."""
@@ -115,22 +131,11 @@ class operation(faced[P, T]):
         self.__wrapped__ = steps
 
 
-def operation_with(
-    undo: str = "", gives_back: bool = False, light: bool = False, call: str = ""
-) -> Callable[[Callable[Concatenate[Any, P], Steps[T]]], operation[P, T]]:
-    return lambda steps: operation(steps, undo, gives_back, light, call)
+def operation_with(**more: Any) -> Callable[[Callable[Concatenate[Any, P], Steps[T]]], operation[P, T]]:
+    return lambda steps: operation(steps, **more)
 
 
 # Steps that many patterns have.
-
-
-def batch(asked: Sequence[Request[Any]], *allowed: type, key: Optional[bytes] = None) -> Steps[List[Any]]:
-    """Sends them together. Raises errors that are not allowed."""
-    outcomes: List[Any] = (yield Batch(asked, key)) if asked else []
-    for outcome in outcomes:
-        if isinstance(outcome, BaseException) and not isinstance(outcome, allowed):
-            raise outcome
-    return outcomes
 
 
 def shared_array(name: str, length: int, full: bool) -> Steps[Array]:

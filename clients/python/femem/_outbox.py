@@ -9,7 +9,7 @@ from . import _errors as errors, _frames as frames
 from ._errors import ProtocolError
 from .events import Events
 from ._frames import NOWAIT, Answer, append_under, pack_number
-from .requests import of_frame, read_done, read_value
+from .requests import of_frame
 from ._sessionfile import SessionFile
 from ._sessionstate import Asked, Contradiction
 from ._jobs import Ticket
@@ -27,6 +27,13 @@ _CROWD = 8
 
 _OF_CALL = (frames.BELOW_FLOOR, frames.BEYOND_WINDOW, frames.NUMBER_USED, frames.NO_MEMORY, frames.SPENT)
 _OF_SETTLE = (frames.BELOW_FLOOR, frames.BEYOND_WINDOW, frames.STILL_WAITING, frames.SPENT)
+
+
+def _waiting(window: Window[Ticket[Any]]) -> List[Ticket[Any]]:
+    """The requests that are known to wait: they did before they were moved, or a later number was answered."""
+    answered = max(window.answers, default=0)
+    known = [ticket for number, ticket in window.unanswered.items() if number < answered or ticket.has_moved]
+    return [ticket for ticket in known if not ticket.must_end()]
 
 
 class Outbox:
@@ -135,15 +142,9 @@ class Outbox:
         return False
 
     def only_waits(self) -> bool:
-        """Whether all that is under way waits: it did before it was moved, or a later number was answered."""
+        """Whether all that is under way waits."""
         window = self.window
-        if self._queue or window is None:
-            return False
-        answered = max(window.answers, default=0)
-        for number, ticket in window.unanswered.items():
-            if ticket.must_end() or number > answered and not ticket.has_moved:
-                return False
-        return True
+        return window is not None and not self._queue and len(_waiting(window)) == len(window.unanswered)
 
     def owed(self) -> List[float]:
         """The times since when the server owes replies."""
@@ -182,7 +183,8 @@ class Outbox:
             self._send_queue(window, now)
             floor = window.next_floor()
         if self.may_grow and len(window.unanswered) > _CROWD:
-            self.is_crowded = self._is_crowded(window)
+            # While others are answered: the oldest one waits.
+            self.is_crowded = len(_waiting(window)) > _CROWD and not next(iter(window.unanswered.values())).must_end()
         # What waits gets new numbers before the room is used up, so that no other request waits for that.
         # (What has moved is known to wait: the others in the queue were not sent yet.)
         for ticket in self.in_the_way():
@@ -190,14 +192,6 @@ class Outbox:
                 self._cancel(ticket, now)
         for ticket in window.holding():
             self._cancel(ticket, now)
-
-    def _is_crowded(self, window: Window[Ticket[Any]]) -> bool:
-        """Whether many requests wait while others are answered."""
-        if next(iter(window.unanswered.values())).must_end():
-            return False
-        answered = max(window.answers, default=0)
-        waiting = [ticket.must_end() for number, ticket in window.unanswered.items() if number < answered or ticket.has_moved]
-        return waiting.count(False) > _CROWD
 
     def move_waits(self, moved: Optional[List[Ticket[Any]]], now: float) -> None:
         """From now on, requests that would wait go there, and those that do; or with `None` nowhere."""
@@ -416,8 +410,7 @@ class Outbox:
                 return at, is_heard
             number, code, value, _ = answer
             ticket = unanswered.get(number) if is_plain else None
-            read = ticket.request.read if ticket is not None else None
-            if ticket is not None and (code == frames.VALUE and read is read_value or code == frames.DONE and read is read_done):
+            if ticket is not None and code == ticket.request.gives and code != frames.ARRAY:
                 # As `answered`, for nearly all there are.
                 del unanswered[number]
                 kept[number] = answer

@@ -15,8 +15,8 @@ from typing import Any, Callable, Deque, List, Optional, Sequence, Tuple
 from . import requests
 from ._arguments import Key
 from ._errors import NoArray, NotNow, TimedOut, Withdrawn
-from ._jobs import Batch, First, Steps, Wait
-from ._operations import FIRST_LOOK, LAST_LOOK, Pattern, Tries, batch, is_full, left, marked_array, once, operation_with, size_of
+from ._jobs import Batch, First, Steps, Wait, batch
+from ._operations import FIRST_LOOK, LAST_LOOK, Pattern, Tries, is_full, left, once, operation_with, size_of
 from ._frames import INT_FETCH_ADD, READFE, READFF, WRITEEF
 from .requests import Array, Request, empty, fill, look, made, made_before, number_of_bits
 
@@ -291,17 +291,14 @@ class BoundedQueue(Pattern):
     """
 
     MARK = b"fe_ring1"
+    FIRST = (0, 0)
 
     def __init__(self, client: Any, name: str, capacity: int) -> None:
         """`capacity` is the same for all who share it."""
         super().__init__(client, name)
         self._ring = Ring(name, size_of(capacity, "capacity"), self._core.clock)
+        self.LENGTH = SLOTS + capacity
         self.REQUESTS = {"put": (20 + 4 * capacity, 12 + 3 * capacity), "get": (16 + 4 * capacity, 12 + 3 * capacity)}
-
-    def _find(self) -> Steps[Array]:
-        if self._array is None:
-            self._array = yield from marked_array(self._name, SLOTS + self._ring.slots, self.MARK, (0, 0))
-        return self._array
 
     @operation_with(light=True)
     def put(self, value: int, timeout: Optional[float] = None, *, key: Optional[Key] = None) -> Steps[None]:

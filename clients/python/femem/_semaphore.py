@@ -9,9 +9,9 @@ from . import _frames as frames
 from ._arguments import Key
 from ._errors import NoArray, NotNow, NotOwner, TimedOut
 from ._holdings import Hold, Release
-from ._jobs import Mended, Steps, Ticket
-from ._operations import FIRST_LOOK, LAST_LOOK, Pattern, Tries, batch, done_at, is_full
-from ._operations import marked_array, operation, operation_with, size_of
+from ._jobs import Mended, Steps, Ticket, batch
+from ._operations import FIRST_LOOK, LAST_LOOK, Pattern, Tries, done_at, is_full
+from ._operations import operation, operation_with, size_of
 from .requests import Array, add, empty, fill, look
 from ._queues import HEAD, SLOTS, TAIL, TRUST, Ring
 
@@ -37,6 +37,7 @@ class Semaphore(Pattern):
         self._ring = Ring(name, self._permits, self._core.clock)
         # The permits' words, and the permits that were acquired by this handle.
         self._words = range(SLOTS + self._permits, SLOTS + 2 * self._permits)
+        self.LENGTH = self._words.stop
         self._held: List[int] = []
         # The permit that was given back last, while nobody else drew a ticket: it is tried first, without the ring. Of each that
         # was acquired so: HEAD at that time. As long as it stands there, nobody has taken the permit's number from the ring.
@@ -54,7 +55,7 @@ class Semaphore(Pattern):
     def _find(self) -> Steps[Array]:
         """At first the ring has all numbers."""
         if self._array is None:
-            array = yield from marked_array(self._name, self._words.stop, self.MARK)
+            array = yield from self._make()
             (head,) = yield from batch([look(array, 1)], NotNow)
             if not is_full(head):
                 fills = [fill(array, SLOTS + k, k) for k in range(self._permits)]

@@ -142,11 +142,12 @@ class SessionFile:
         record = sessionstate.record(kind, *fields)
         self.state.take(record)
         self._pending += record
+        # (the server gives an answer again, and keeps nothing of keys)
+        self.must_sync = self.must_sync or kind not in (ANSWERED_KIND, FORGOTTEN_KIND)
 
     def asked(self, number: int, asked: Asked) -> None:
         self._note(sessionstate.ASKED_KIND, *sessionstate.fields_of(number, asked))
         self.state.next = number + 1
-        self.must_sync = True
 
     def settling(self, floor: int) -> None:
         """Notes that the floor is asked for. The file gets the answers below it first, since the server then drops them."""
@@ -159,12 +160,10 @@ class SessionFile:
     def has_moved(self, number: int, new: int) -> None:
         self._note(MOVED_KIND, PAIR.pack(number, new))
         self.state.next = new + 1
-        self.must_sync = True
 
     def has_ended(self, number: int) -> None:
-        """Notes that the request was withdrawn or refused: nothing of it happened."""
+        """Notes that the request was withdrawn or refused: its caller learns this, and the next process must not ask it again."""
         self._note(ENDED_KIND, NUMBER.pack(number))
-        self.must_sync = True  # its caller learns this, and the next process must not ask it again
 
     def settled(self, floor: int) -> None:
         self.state.floor = floor
@@ -177,7 +176,6 @@ class SessionFile:
 
     def ending(self) -> None:
         self._note(LEAVING_KIND)
-        self.must_sync = True
 
     def commit(self) -> None:
         """Writes and syncs everything noted so far. `SessionFileError` if it can't: then nothing may be sent."""

@@ -11,6 +11,7 @@ import zlib
 from typing import Callable, Dict, NamedTuple, Optional, Set, Tuple
 
 from . import _frames as frames
+from .requests import OPERATIONS
 
 _NO_NUMBER: int = 2**64
 _MANY = 4 * frames.WINDOW  # with so many answers, those below the floor are dropped
@@ -60,7 +61,6 @@ def fields_of(number: int, asked: Asked) -> Tuple[bytes, bytes, bytes]:
 
 # The length of each kind of request, without its own 4 bytes.
 _LENGTHS = {2: 31, 3: 26, 4: 17, 5: 30, 11: 30, 12: 47, 13: 42}
-_GIVE_VALUES = (frames.READFE, frames.READFF, frames.READXX, frames.INT_FETCH_ADD)
 
 # An access under number 0: length, kind and number; then operation, array, index and operand, which is 0 where it is not used.
 _HEAD = rb"\0\0\0\x1e[\x05\x0b]\0{8}"
@@ -107,8 +107,7 @@ def _codes(frame: bytes) -> Tuple[int, ...]:
         return frames.ARRAY, frames.BAD_NAME, frames.NO_ARRAY
     if kind == 4:
         return frames.DONE, frames.NO_ARRAY
-    done = frames.VALUE if frame[13] in _GIVE_VALUES else frames.DONE
-    return (done, frames.NO_ARRAY, frames.BAD_INDEX) + ((frames.NOT_NOW,) if kind == frames.NOWAIT else ())
+    return (OPERATIONS[frame[13]][1], frames.NO_ARRAY, frames.BAD_INDEX) + ((frames.NOT_NOW,) if kind == frames.NOWAIT else ())
 
 
 def _must(holds: bool, otherwise: str) -> None:

@@ -157,7 +157,6 @@ class Shell:
     def __init__(self, source: Observer, given: argparse.Namespace) -> None:
         self._given = given
         self._observer = source
-        self._trouble = ""
 
     def run(self, words: Words) -> None:
         command, *rest = words
@@ -170,10 +169,10 @@ class Shell:
 
     def _look(self) -> Look:
         """What `femem look` shows. If it shows nothing, prints why, once."""
+        known = self._observer.trouble
         look = self._observer.look()
-        if self._observer.trouble and self._observer.trouble != self._trouble:
+        if self._observer.trouble not in ("", known):
             print(f"femem: the store shows no names: {self._observer.trouble}", file=sys.stderr)
-        self._trouble = self._observer.trouble
         return look
 
     def report(self, rest: Words) -> None:

@@ -42,8 +42,6 @@ class Used(List[Optional[T]]):
     before. `asked`: the floor that they asked for last, unless it is 0. `left`: the number that what waits
     all the time had before it became the first of these, or 0."""
 
-    __slots__ = ("first", "asked", "left")
-
     def __init__(self, first: int, asked: int) -> None:
         self.first = first
         self.asked = asked

@@ -3,13 +3,14 @@
 from __future__ import annotations
 
 import operator
+from functools import partial
 from typing import Any, Optional, Tuple
 
 from . import requests
 from ._arguments import Key
 from ._errors import BrokenBarrier, NameTaken, NoArray, NotNow, OtherPattern, TimedOut
-from ._jobs import Steps, Wait, first_of
-from ._operations import Pattern, batch, is_full, once
+from ._jobs import Steps, Wait, batch, first_of
+from ._operations import Pattern, is_full, once
 from ._operations import operation, operation_with, shared_array, size_of
 from .requests import Array, add, empty, fill, look
 
@@ -83,14 +84,9 @@ class Once(Pattern):
     @operation_with(undo="_give_up_if_begun")
     def _begin(self, timeout: Optional[float]) -> Steps[Tuple[Optional[Array], int]]:
         """The array, if this client is the one that does it, or the result."""
-        end = self._deadline(timeout)
-        while True:
-            try:
-                return (yield from self._do_or_get((yield from self._find()), end))
-            except NoArray:
-                self._array = None  # it was removed
+        return (yield from self._with_array(partial(self._do_or_get, self._deadline(timeout))))
 
-    def _do_or_get(self, array: Array, end: Optional[float]) -> Steps[Tuple[Optional[Array], int]]:
+    def _do_or_get(self, end: Optional[float], array: Array) -> Steps[Tuple[Optional[Array], int]]:
         yield from self._core.holdings.left.look_up(array, (self.DOER,), self._session)
         is_left = self._core.holdings.left.take(array, self.DOER)
         asked = [fill(array, self.DOER, self._session), look(array, self.RESULT)]

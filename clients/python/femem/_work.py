@@ -6,14 +6,14 @@ import math
 from collections import deque
 from contextlib import suppress
 from itertools import takewhile
-from typing import Any, Callable, Deque, Dict, Generic, List, Optional, Sequence, Set, Tuple, TypeVar
+from typing import Any, Deque, Dict, Generic, List, Optional, Sequence, Set, Tuple, Type, TypeVar
 
 from . import requests
 from ._arguments import Key
 from ._errors import BadName, FememError, NoArray, NotNow, NotOwner, TimedOut, Withdrawn, WordLimit
 from ._frames import INT_FETCH_ADD, NOWAIT, READFF, WRITEEF
-from ._jobs import Hand, Job, Look, Steps, Ticket, Wait
-from ._operations import FIRST_LOOK, LAST_LOOK, Pattern, Tries, batch, done_at, is_full
+from ._jobs import Hand, Job, Look, Steps, Ticket, Wait, batch
+from ._operations import FIRST_LOOK, LAST_LOOK, Pattern, Tries, done_at, is_full
 from ._operations import operation, operation_with, size_of
 from .requests import Array, Request, add, fill, look, made, made_before, number_of_bits
 from ._workpages import CHUNK, DONE, DROPPED, FINISHED, FIRST_SLOT, HEAD, JOBS, LARGEST, MOST_ATTEMPTS
@@ -32,9 +32,8 @@ class WorkJob(Pattern):
     """A job that this client has. `number` names it for ever. `attempt` counts from 1."""
 
     REQUESTS = {"done": (5, 0), "fail": (3, 0), "move": (80, 4 * PAGES)}
-    _array: Optional[Array] = None
 
-    def __init__(self, queue: WorkQueue, number: int, value: int, attempt: int) -> None:
+    def __init__(self, queue: WorkQueue[Any], number: int, value: int, attempt: int) -> None:
         self._client = queue._client
         self._queue = queue
         self.number = number
@@ -58,7 +57,7 @@ class WorkJob(Pattern):
             self._queue._let_go(self.number)
 
     @operation
-    def move(self, next: WorkQueue, value: int, timeout: Optional[float] = None) -> Steps[None]:
+    def move(self, next: WorkQueue[Any], value: int, timeout: Optional[float] = None) -> Steps[None]:
         """Puts the value into the next queue, and is done, in one step: `next.put(value, timeout, for_job=job)`."""
         return WorkQueue.put.steps(next, value, timeout, for_job=self)
 
@@ -120,7 +119,7 @@ class Loop(Generic[J]):
         self._job = None
 
 
-class WorkQueue(Moves):
+class WorkQueue(Moves, Generic[J]):
     """Jobs of 64 bits, each given to one taker at a time until it is done, by clients in Python and in C.
 
     A job whose taker is absent for `away_after` seconds, or has failed, is given to another one, up to `attempts` times; then
@@ -128,7 +127,7 @@ class WorkQueue(Moves):
     process of this session had is given out again at once.
     """
 
-    JOB: Callable[..., WorkJob] = WorkJob
+    JOB: Type[J] = WorkJob  # type: ignore[assignment]
 
     def __init__(self, client: Any, name: str, capacity: int, *, attempts: int = 3, away_after: float = 5.0) -> None:
         """`capacity`, at most 65,532, and `attempts`, at most 16, are the same for all who share it. `name` has 1 to 30 bytes.
@@ -289,7 +288,7 @@ class WorkQueue(Moves):
         return False
 
     @operation_with(undo="_give_up_job", light=True)
-    def take(self, timeout: Optional[float] = None) -> Steps[Any]:
+    def take(self, timeout: Optional[float] = None) -> Steps[J]:
         """Waits for a job, and takes it: `with queue.take() as job:` is done at the end of the block, or has failed if the
         block raises. `TimedOut` if there is none in time."""
         end = self._deadline(timeout)
@@ -315,9 +314,9 @@ class WorkQueue(Moves):
             if job is not None:
                 return job
 
-    def _take_now(self, presence: int, end: Optional[float]) -> Steps[Optional[WorkJob]]:
+    def _take_now(self, presence: int, end: Optional[float]) -> Steps[Optional[J]]:
         """A job that is there, from a look if one is due, or by a ticket."""
-        job: Optional[WorkJob] = None
+        job: Optional[J] = None
         if self._now() >= self._look_at:
             job = yield from self._rescue(presence)
         elif self._taking is None:
@@ -354,7 +353,7 @@ class WorkQueue(Moves):
         """The pages that may have tickets for takers, or all where the slots that have ended count."""
         return [page for page in self._by_age() if page.head < self._slots or FINISHED in counts]
 
-    def _take_from(self, page: Page, end: Optional[float]) -> Steps[Optional[WorkJob]]:
+    def _take_from(self, page: Page, end: Optional[float]) -> Steps[Optional[J]]:
         """Draws a ticket of the page, and takes its job if it is there."""
         asked = [made_before(INT_FETCH_ADD, page.id, HEAD, 1, True)]
         if page.head >= page.tail:
@@ -374,7 +373,7 @@ class WorkQueue(Moves):
             return None
         return (yield from self._take_slot(page, int(ticket), end))
 
-    def _take_slot(self, page: Page, slot: int, end: Optional[float]) -> Steps[Optional[WorkJob]]:
+    def _take_slot(self, page: Page, slot: int, end: Optional[float]) -> Steps[Optional[J]]:
         """Takes the job of a slot whose ticket this client has."""
         looks = [made(READFF, page.id, word, 0, True) for word in (self._value_at(slot), self._source_at(slot))]
         outcomes = yield from self._claim(page, slot, 0, *looks)
@@ -412,15 +411,15 @@ class WorkQueue(Moves):
     def _let_go(self, number: int) -> None:
         self._core.holdings.jobs.pop(number, None)
 
-    def _given(self, page: Page, slot: int, value: Any, attempt: int, source: Any = 0) -> Steps[Optional[WorkJob]]:
+    def _given(self, page: Page, slot: int, value: Any, attempt: int, source: Any = 0) -> Steps[Optional[J]]:
         """The job of a slot that this client has claimed, if it has a value and counts."""
         number = page.id << 16 | slot
         if is_full(value) and value != NOTHING and (yield from self._settle(page, slot, source)):
-            return type(self).JOB(self, number, int(value), attempt + 1)
+            return self.JOB(self, number, int(value), attempt + 1)
         self._let_go(number)
         return None
 
-    def _look_at_signal(self, number: int, presence: int) -> Steps[Optional[WorkJob]]:
+    def _look_at_signal(self, number: int, presence: int) -> Steps[Optional[J]]:
         if number == NOTHING:
             return (yield from self._rescue(presence))
         id, slot = number >> 16, number & 0xFFFF
@@ -440,14 +439,14 @@ class WorkQueue(Moves):
 
     # Jobs that nobody has.
 
-    def _rescue(self, presence: int) -> Steps[Optional[WorkJob]]:
+    def _rescue(self, presence: int) -> Steps[Optional[J]]:
         """Looks for one below HEAD: a ticket finds what stands above it."""
         yield Hand()
         self._there, self._cost, self._due = None, 2, math.inf  # (the wait until the next look, and its end)
         if self._absent:
             yield from self._read_who_is_there(presence)  # (it may not come to a job of theirs)
         yield from self._find_work(TAIL, HEAD, FINISHED)
-        job: Optional[WorkJob] = None
+        job: Optional[J] = None
         for page in self._by_age():
             job = yield from self._rescue_page(page, presence)
             if job is not None:
@@ -464,7 +463,7 @@ class WorkQueue(Moves):
             self._look_at = max(self._soonest, self._now() + after)
         return job
 
-    def _rescue_page(self, page: Page, presence: int) -> Steps[Optional[WorkJob]]:
+    def _rescue_page(self, page: Page, presence: int) -> Steps[Optional[J]]:
         if page.finished >= self._slots:
             yield from self._remove(page)
             return None
@@ -491,9 +490,9 @@ class WorkQueue(Moves):
             yield from self._remove(page)
         return job
 
-    def _take_any_over(self, page: Page, slots: Sequence[int], presence: int) -> Steps[Optional[WorkJob]]:
+    def _take_any_over(self, page: Page, slots: Sequence[int], presence: int) -> Steps[Optional[J]]:
         """Takes the job of one of these slots if nobody has it, and notes which slots are open."""
-        job: Optional[WorkJob] = None
+        job: Optional[J] = None
         for slot, words in (yield from self._read_slots(page, slots)):
             if slot not in page.open:
                 page.open.append(slot)
@@ -519,7 +518,7 @@ class WorkQueue(Moves):
                 self._note_ends(page, [slot], [end])
         return is_open
 
-    def _take_over(self, page: Page, slot: int, words: Sequence[Any], presence: int) -> Steps[Optional[WorkJob]]:
+    def _take_over(self, page: Page, slot: int, words: Sequence[Any], presence: int) -> Steps[Optional[J]]:
         """Takes the job of an open slot below HEAD if nobody has it."""
         value, number = words[0], page.id << 16 | slot
         if isinstance(value, NotNow) or value == NOTHING:

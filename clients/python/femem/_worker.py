@@ -13,15 +13,15 @@ import socket
 import struct
 import threading
 import time
-import weakref
 from collections import deque
 from contextlib import suppress
 from threading import get_ident
 from typing import Callable, Deque, Optional, Set
 
 from . import _errors as errors
+from ._arguments import Choice
 from ._attachment import READY
-from ._carrier import FAREWELL, FIRST_PAUSE, LONGEST_PAUSE, NOT_HERE, Carrier
+from ._carrier import FAREWELL, FIRST_PAUSE, LONGEST_PAUSE, NOT_HERE, Carrier, carriers
 from ._core import Core
 from .events import log
 from ._lease import READ_TIME, Lease
@@ -54,7 +54,7 @@ _IN_AND_OUT = select.POLLIN | select.POLLOUT
 class Worker(Carrier):
     """With a thread, which lends numbers to callers while it sleeps at its bell."""
 
-    def __init__(self, path: str, core: Core, longest_sleep: float, is_temporary: bool, waits_for_server: bool) -> None:
+    def __init__(self, core: Core, choice: Choice) -> None:
         # What callers ask, in order: the thread calls each with the time. A caller that finds something here asks the thread
         # too, and so one that finds `lead` locked.
         self.asked: Deque[Callable[[float], object]] = deque()
@@ -72,7 +72,7 @@ class Worker(Carrier):
         self._waker, self._woken = socket.socketpair()
         self._waker.setblocking(False)
         self._woken.setblocking(False)
-        self._longest_sleep = longest_sleep
+        self._longest_sleep = choice.pause
         # Where the thread sleeps, so that a caller knows how to wake it.
         self._is_asleep = False
         self._is_at_bell = False
@@ -87,12 +87,11 @@ class Worker(Carrier):
         self._woken_number = self._woken.fileno()
         self._poll = select.poll()
         self._thread = threading.Thread(target=self._run, name=f"femem session {core.session}", daemon=True)
-        super().__init__(path, core, is_temporary, waits_for_server)
+        super().__init__(core, choice)
 
     # What callers use.
 
     def start(self) -> None:
-        _workers.add(self)
         self._thread.start()
 
     def ask(self, what: Callable[[float], object]) -> None:
@@ -213,19 +212,17 @@ class Worker(Carrier):
         self._woken.close()
 
     def _connect(self) -> Optional[socket.socket]:
+        connection: Optional[socket.socket] = None
         try:
             connection = socket.socket(socket.AF_UNIX, socket.SOCK_STREAM)
-        except OSError as error:
-            self.core.trouble = f"{self.path}: {error.strerror}"  # too many files are open
-            return None
-        try:
             connection.settimeout(_CONNECT_TIME)
             connection.connect(self.path)
             # Blocking, since callers read too; the thread itself never waits here.
             connection.settimeout(None)
             connection.setsockopt(socket.SOL_SOCKET, socket.SO_RCVTIMEO, _TIMEVAL.pack(0, int(1e6 * READ_TIME)))
-        except OSError as error:
-            connection.close()
+        except OSError as error:  # also: too many files are open
+            if connection is not None:
+                connection.close()
             self._not_connected(error)
             return None
         self._has_connected = True
@@ -421,12 +418,10 @@ class Worker(Carrier):
         self._socket = None
 
 
-_workers: weakref.WeakSet[Worker] = weakref.WeakSet()
-
-
 def at_exit() -> None:
     """Ends those that still run, all at once, within about a second: their threads stop with the interpreter."""
-    running = [worker for worker in list(_workers) if not worker.is_over and worker.process == os.getpid()]
+    workers = [worker for worker in list(carriers) if isinstance(worker, Worker) and worker.process == os.getpid()]
+    running = [worker for worker in workers if worker._thread.is_alive()]
     for worker in running:
         worker.end_soon()
     end = time.monotonic() + 2 * FAREWELL

@@ -7,8 +7,8 @@ from typing import Any, Dict, List, Optional, Set
 from . import requests
 from ._errors import NameTaken, NoArray, NotNow, NotOwner, OtherPattern
 from ._frames import INT_FETCH_ADD, READFF, WRITEEF
-from ._jobs import Hand, Steps
-from ._operations import Pattern, batch, is_full, shared_array
+from ._jobs import Hand, Steps, batch
+from ._operations import Pattern, is_full, shared_array
 from .requests import Request, add, fill, look, made, made_before
 
 PAGES = 8

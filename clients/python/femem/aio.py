@@ -18,7 +18,7 @@ import os
 import warnings
 import weakref
 from functools import partial
-from typing import TYPE_CHECKING, Any, Awaitable, Callable, Coroutine, Optional, Sequence, Type, TypeVar
+from typing import Any, Awaitable, Callable, Optional, Sequence, Type, TypeVar
 
 from . import _aioworker as aioworker, _errors as errors, _keylocks as keylocks, _locks as locks
 from . import _operations as operations, _queues as queues, _registry as registry, _semaphore as semaphore
@@ -28,7 +28,8 @@ from ._arguments import DEFAULT, Choice, Key, Timeout, request_of, seconds_of
 from ._calls import Asking, Calls, ForTasks, show_as
 from ._carrier import NOT_HERE
 from ._client import end_session
-from ._jobs import Job, Last, T, Ticket, nobody
+from ._core import Core
+from ._jobs import Job, Last, T, Ticket
 from .requests import Array, Request, number_of_bits
 from ._sessionfile import SessionFile
 
@@ -48,8 +49,9 @@ class AsyncClient(Calls, ForTasks):
 
     def _make(self, choice: Choice) -> None:
         self._choice = choice
-        self._core = choice.core(now)
-        self._worker = AsyncWorker(choice.path, self._core, choice.is_temporary, choice.waits_for_server)
+        self._core = Core(choice, now)
+        self._worker = AsyncWorker(self._core, choice)
+        self._ask = self._worker.ask
         self._may_grow(choice, AsyncClient._grown)
         self.recovered = []
 
@@ -141,9 +143,6 @@ class AsyncClient(Calls, ForTasks):
         self._worker.move()
         return future
 
-    def _ask(self, what: Callable[[float], object]) -> None:
-        self._worker.ask(what)
-
     def _catch_up(self) -> None:
         pass  # it was done at once
 
@@ -171,8 +170,7 @@ class AsyncClient(Calls, ForTasks):
         """Runs an operation of several steps. A task that is cancelled takes it back, or gets the result if it is done."""
         self._check_use(in_any_case=job.gives_back)
         future = self._future(job)
-        self._core.start(job, now())
-        self._worker.move()
+        self._ask(partial(self._core.start, job))
         return await self._told((job,), future)
 
     async def _told(self, tickets: Sequence[Ticket[Any]], future: asyncio.Future[T]) -> T:
@@ -219,23 +217,12 @@ class AsyncClient(Calls, ForTasks):
     def _future(self, ticket: Ticket[T]) -> asyncio.Future[T]:
         future: asyncio.Future[Any] = asyncio.get_running_loop().create_future()
 
-        def finished() -> None:
-            ticket.finished = nobody  # nothing holds itself
-            if future.cancelled():
-                return
-            if ticket.error is not None:
-                future.set_exception(ticket.error)
-            else:
-                future.set_result(ticket.result)
-
         def cancelled(future: asyncio.Future[Any]) -> None:
             if future.cancelled() and not ticket.done:
                 self._take_back((ticket,), True)
 
-        ticket.finished = finished
         future.add_done_callback(cancelled)
-        future.asked = (self._core, ticket)  # type: ignore[attr-defined]
-        return future
+        return self._ending_with(ticket, future)
 
 
 def _is_owed(task: Any) -> bool:
@@ -367,7 +354,7 @@ class JobLoop(work.Loop[WorkJob]):
         return self._job
 
 
-class WorkQueue(Awaiting, work.WorkQueue):
+class WorkQueue(Awaiting, work.WorkQueue[WorkJob]):
     JOB = WorkJob
 
     def jobs(self, timeout: Optional[float] = None) -> JobLoop:
@@ -377,11 +364,6 @@ class WorkQueue(Awaiting, work.WorkQueue):
     def __aiter__(self) -> JobLoop:
         """`async for job in queue:` takes job after job, without end."""
         return self.jobs()
-
-    if TYPE_CHECKING:
-
-        def take(self, timeout: Optional[float] = None) -> Coroutine[Any, Any, WorkJob]:  # type: ignore[override]
-            ...
 
 
 async def shared_array(client: AsyncClient, name: str, length: int, full: bool) -> Array:

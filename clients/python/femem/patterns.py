@@ -15,7 +15,7 @@ from __future__ import annotations
 import functools
 import weakref
 from threading import get_ident
-from typing import TYPE_CHECKING, Any, Callable, Dict, Optional, TypeVar
+from typing import Any, Callable, Dict, Optional, TypeVar
 
 from . import _keylocks as keylocks, _locks as locks, _operations as operations, _queues as queues
 from . import _semaphore as semaphore, _words as words, _work as work
@@ -262,12 +262,12 @@ class JobLoop(work.Loop[WorkJob]):
 
     def _take(self) -> Steps[WorkJob]:
         """The job is this loop's as soon as it is taken: no interruption comes in between."""
-        job: WorkJob = yield from work.WorkQueue.take.steps(self._queue, self._timeout)
+        job: WorkJob = yield from work.WorkQueue[WorkJob].take.steps(self._queue, self._timeout)
         self._job = job
         return job
 
 
-class WorkQueue(Blocking, work.WorkQueue):
+class WorkQueue(Blocking, work.WorkQueue[WorkJob]):
     JOB = WorkJob
 
     def jobs(self, timeout: Optional[float] = None) -> JobLoop:
@@ -277,11 +277,6 @@ class WorkQueue(Blocking, work.WorkQueue):
     def __iter__(self) -> JobLoop:
         """`for job in queue:` takes job after job, without end."""
         return self.jobs()
-
-    if TYPE_CHECKING:
-
-        def take(self, timeout: Optional[float] = None) -> WorkJob:  # type: ignore[override]
-            ...
 
 
 def shared_array(client: Client, name: str, length: int, full: bool) -> Array:

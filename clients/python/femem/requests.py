@@ -9,11 +9,11 @@ import operator
 import struct
 from dataclasses import dataclass
 from functools import lru_cache, partial
-from typing import Any, Callable, Dict, Generic, SupportsIndex, Tuple, TypeVar, Union
+from typing import Any, Dict, Generic, SupportsIndex, Tuple, TypeVar, Union
 
 from . import _frames as frames
 from ._errors import ProtocolError, answered
-from ._frames import ACCESS, NOWAIT, VALUE, pack_access
+from ._frames import ACCESS, ARRAY, DONE, NOWAIT, VALUE, pack_access
 
 __all__ = [
     "Array", "ArrayLike", "Request", "create", "find", "int_fetch_add", "purge", "readfe", "readff", "readxx", "remove",
@@ -35,15 +35,22 @@ ArrayLike = Union[Array, int]  # an array, or its id
 
 
 class Request(Generic[T_co]):
-    """A request. `frame` is its frame under number 0. `read` makes the result of an answer that is not an error; it raises
-    `ProtocolError` if the answer can't be to this request."""
+    """A request. `frame` is its frame under number 0. `gives` is the code of its answer if that is not an error."""
 
-    __slots__ = ("frame", "read", "may_wait")
+    __slots__ = ("frame", "gives", "may_wait")
 
-    def __init__(self, frame: bytes, read: Callable[[frames.Answer], T_co], may_wait: bool = False) -> None:
+    def __init__(self, frame: bytes, gives: int, may_wait: bool = False) -> None:
         self.frame = frame
-        self.read = read
+        self.gives = gives
         self.may_wait = may_wait
+
+    def read(self, answer: frames.Answer) -> T_co:
+        """The result of an answer that is not an error. `ProtocolError` if the answer can't be to this request."""
+        _, code, value, length = answer
+        if code != self.gives:
+            raise ProtocolError(f"answer {code} to {self.what}")
+        result: Any = Array(value, length) if code == ARRAY else value if code == VALUE else None
+        return result  # type: ignore[no-any-return]
 
     @property
     def what(self) -> str:
@@ -54,25 +61,8 @@ class Request(Generic[T_co]):
         return f"<femem request: {self.what}>"
 
 
-def read_value(answer: frames.Answer) -> int:
-    if answer.code != VALUE:
-        raise ProtocolError(f"answer {answer.code} to a request for a value")
-    return answer.value
-
-
-def read_done(answer: frames.Answer) -> None:
-    if answer.code != frames.DONE:
-        raise ProtocolError(f"answer {answer.code} to a request that is done")
-
-
-def read_array(answer: frames.Answer) -> Array:
-    if answer.code != frames.ARRAY:
-        raise ProtocolError(f"answer {answer.code} to a request for an array")
-    return Array(answer.value, answer.length)
-
-
 # What has no request of its own: a report, the end of a session, a pause.
-NOTHING: Request[Any] = Request(b"", read_done)
+NOTHING: Request[Any] = Request(b"", DONE)
 
 
 def _name_bytes(name: Union[str, bytes]) -> bytes:
@@ -109,17 +99,17 @@ def create(name: Union[str, bytes], length: int, full: bool = False) -> Request[
         size = number_of_bits(length, 32, "length")
     except ValueError:
         raise answered(frames.BAD_LENGTH, f"{operator.index(length)}") from None
-    return Request(frames.create(0, spelled, size, _flag(full, "full")), read_array)
+    return Request(frames.create(0, spelled, size, _flag(full, "full")), ARRAY)
 
 
 def find(name: Union[str, bytes]) -> Request[Array]:
     """The array of that name. `NoArray`, `BadName`."""
-    return Request(frames.find(0, _name_bytes(name)), read_array)
+    return Request(frames.find(0, _name_bytes(name)), ARRAY)
 
 
 def remove(array: ArrayLike) -> Request[None]:
     """Removes an array. What waits on it ends with `NoArray`."""
-    return Request(frames.remove(0, _id(array)), read_done)
+    return Request(frames.remove(0, _id(array)), DONE)
 
 
 def _id(array: ArrayLike) -> int:
@@ -141,10 +131,10 @@ def access(code: int, array: ArrayLike, index: int, operand: int = 0, nowait: bo
 
 def made(code: int, id: int, index: int, operand: int, nowait: bool) -> Request[Any]:
     """One that is nobody else's. `struct.error` if an argument is not a whole number or has too many bits."""
-    _, read, may_wait = OPERATIONS[code]
+    _, gives, may_wait = OPERATIONS[code]
     if nowait is not False and nowait is not True:
         nowait = _flag(nowait, "nowait")
-    return Request(pack_access(30, NOWAIT if nowait else ACCESS, 0, code, id, index, operand), read, may_wait and not nowait)
+    return Request(pack_access(30, NOWAIT if nowait else ACCESS, 0, code, id, index, operand), gives, may_wait and not nowait)
 
 
 # What patterns ask most: requests that do not wait, for an array, an index and a value.
@@ -159,16 +149,16 @@ def made_before(code: int, id: int, index: int, operand: int, nowait: bool) -> R
     return made(code, id, index, operand, nowait)
 
 
-# For each operation: its name, how its answer is read, and whether it may wait.
-OPERATIONS: Dict[int, Tuple[str, Callable[[frames.Answer], Any], bool]] = {
-    frames.READFE: ("readfe", read_value, True),
-    frames.READFF: ("readff", read_value, True),
-    frames.READXX: ("readxx", read_value, False),
-    frames.WRITEEF: ("writeef", read_done, True),
-    frames.WRITEFF: ("writeff", read_done, True),
-    frames.WRITEXF: ("writexf", read_done, False),
-    frames.PURGE: ("purge", read_done, False),
-    frames.INT_FETCH_ADD: ("int_fetch_add", read_value, True),
+# For each operation: its name, the code of its answer, and whether it may wait.
+OPERATIONS: Dict[int, Tuple[str, int, bool]] = {
+    frames.READFE: ("readfe", VALUE, True),
+    frames.READFF: ("readff", VALUE, True),
+    frames.READXX: ("readxx", VALUE, False),
+    frames.WRITEEF: ("writeef", DONE, True),
+    frames.WRITEFF: ("writeff", DONE, True),
+    frames.WRITEXF: ("writexf", DONE, False),
+    frames.PURGE: ("purge", DONE, False),
+    frames.INT_FETCH_ADD: ("int_fetch_add", VALUE, True),
 }
 
 
@@ -216,9 +206,9 @@ def of_frame(frame: bytes) -> Request[Any]:
     """The request whose `Request.frame` this is."""
     kind = frame[4]
     if kind in (5, 11):
-        _, read, may_wait = OPERATIONS[frame[13]]
-        return Request(frame, read, may_wait and kind == 5)
-    return Request(frame, read_done if kind == 4 else read_array)
+        _, gives, may_wait = OPERATIONS[frame[13]]
+        return Request(frame, gives, may_wait and kind == 5)
+    return Request(frame, DONE if kind == 4 else ARRAY)
 
 
 @lru_cache(maxsize=256)

@@ -20,7 +20,8 @@ import subprocess
 import tempfile
 import threading
 import time
-from typing import Any, Dict, Iterator, Optional, Tuple, TypeVar
+from contextlib import suppress
+from typing import Any, Dict, Iterator, Optional, TypeVar
 
 from . import _model
 
@@ -136,8 +137,7 @@ class ModelServer(_Served):
             self.model.stop()
 
     def _run(self) -> None:
-        links: Dict[socket.socket, Tuple[int, bytearray]] = {}
-        conns = 0
+        links: Dict[socket.socket, bytearray] = {}  # of each connection, what is no whole message yet
         with selectors.DefaultSelector() as selector:
             selector.register(self._stopped, selectors.EVENT_READ)
             selector.register(self._listener, selectors.EVENT_READ)
@@ -148,21 +148,19 @@ class ModelServer(_Served):
                         stands = False
                     elif key.fileobj is self._listener:
                         link = self._listener.accept()[0]
-                        conns += 1
-                        links[link] = (conns, bytearray())
-                        self.model.connect(conns)
+                        links[link] = bytearray()
+                        self.model.connect(link)
                         selector.register(link, selectors.EVENT_READ)
                     else:
                         assert isinstance(key.fileobj, socket.socket)
-                        self._read(key.fileobj, links)
+                        self._read(key.fileobj, links[key.fileobj])
                 if stands and self.posts:
                     self.model.post()
                 self._write(selector, links)
         for link in [self._listener, *links]:
             link.close()
 
-    def _read(self, link: socket.socket, links: Dict[socket.socket, Tuple[int, bytearray]]) -> None:
-        conn, stream = links[link]
+    def _read(self, link: socket.socket, stream: bytearray) -> None:
         try:
             piece = link.recv(65536)
         except OSError:
@@ -170,21 +168,21 @@ class ModelServer(_Served):
         stream += piece
         try:
             for message in _MODEL.read_messages(stream):
-                self.model.take(conn, message)
+                self.model.take(link, message)
         except _MODEL.BadFrame:
             piece = b""
         if not piece:
-            self.model.gone(conn)
+            self.model.gone(link)
 
-    def _write(self, selector: selectors.BaseSelector, links: Dict[socket.socket, Tuple[int, bytearray]]) -> None:
-        for link, (conn, _) in list(links.items()):
+    def _write(self, selector: selectors.BaseSelector, links: Dict[socket.socket, bytearray]) -> None:
+        for link in list(links):
             try:
-                if conn not in self.model.boxes:
+                if link not in self.model.boxes:
                     raise OSError("gone")
-                for reply in self.model.take_mail(conn):
+                for reply in self.model.take_mail(link):
                     link.sendall(reply)
             except OSError:
-                self.model.gone(conn)
+                self.model.gone(link)
                 selector.unregister(link)
                 link.close()
                 del links[link]
@@ -198,9 +196,5 @@ def _served() -> Iterator[Server]:
 
 # A fixture if pytest is installed, and a context for others: `with Server() as server`.
 femem_server: Any = _served
-try:
-    _pytest: Any = importlib.import_module("pytest")
-except ImportError:
-    pass
-else:
-    femem_server = _pytest.fixture(name="femem_server")(_served)
+with suppress(ImportError):
+    femem_server = importlib.import_module("pytest").fixture(name="femem_server")(_served)

@@ -10,6 +10,7 @@ from serving import WithFolder
 from world import Core, World, run
 
 from femem import _errors as errors, _frames as frames, requests
+from femem._arguments import Choice
 from femem._attachment import Phase
 from femem._sessionfile import SessionFile
 from femem._sessionstate import Asked
@@ -36,7 +37,7 @@ class Late(WithFolder):
     def opened(self, world, path):
         """A client with a session file."""
         file = SessionFile(path)
-        core = Core(file.state.session, None, 1.0, file)
+        core = Core(Choice("", file.state.session, file, pause=1.0))
         core.open(world.now)
         return core
 

@@ -14,6 +14,7 @@ from world import Core
 
 import femem
 from femem import Client, _frames as frames, requests
+from femem._arguments import Choice
 
 FIRST = 33  # the first number of a client whose session has floor 1
 
@@ -181,7 +182,7 @@ class Malice(WithFolder):
             client.readfe(1, 0)
 
     def test_a_server_that_has_no_room_for_a_connection_is_told(self):
-        core = Core(7, 10.0)
+        core = Core(Choice("", 7, patience=10.0))
         core.open(0.0)
         for moment in range(3):
             core.connected(float(moment))

@@ -5,6 +5,7 @@ import random
 from model import Model, read_messages
 
 from femem import _core as core
+from femem._arguments import Choice
 from femem._jobs import Ticket
 
 
@@ -30,7 +31,7 @@ class World:
         self.half_open = []  # connections that the client has given up and the server still has
 
     def core(self, session, timeout=None, probe_interval=1.0):
-        core = Core(session, timeout, probe_interval, clock=lambda: self.now)
+        core = Core(Choice("", session, patience=timeout, pause=probe_interval), lambda: self.now)
         core.open(self.now)
         return core
 
