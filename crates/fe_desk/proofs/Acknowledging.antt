@@ -36,10 +36,12 @@ use Rattle.fe_desk.specs.declared.handed.Handed.{Handed}
 use Rattle.fe_desk.specs.declared.handed.Handed.TheVariants.{Nothing, Cut, Stored}
 use Rattle.fe_desk.specs.declared.step.Step.{Step}
 use Rattle.fe_desk.specs.declared.step.Step.TheVariants as step
-use Rattle.fe_desk.specs.DeskRunState.{Client, DeskRunState, IsFirstRunState, handed_after, cut, stored, stored_from, posted, posted_from, cleared, committed, made, is_making, with_room, begun_room, roomy}
+use Rattle.fe_desk.specs.DeskRunState.{Client, DeskRunState, IsFirstRunState, cut, stored, stored_from, posted, posted_from, cleared}
+use Rattle.fe_desk.specs.Room.{MayBegin, StopsMaking, begun_room, is_making, made, roomy, with_room}
+use Rattle.fe_desk.proofs.Reading.{committed}
 use Rattle.fe_desk.specs.Steps.{find, on_client, new_client, clients_with, with_left, with_decoder, Connects, gone, after_frame, TakesPiece, TakesFrom, TakesBytes, Reads, Acts, TakesOne, TakesAll}
 use Rattle.fe_desk.specs.Acknowledged.{StandsOn, IsLast, IsOnItsWay, AsksFor, entries_of, cut_entries, made_entries}
-use Rattle.fe_desk.specs.Ends.{MayBegin, StopsMaking, TakesFirst, StopsBefore, StopsUnread, StopsBehind}
+use Rattle.fe_desk.specs.Ends.{TakesFirst, StopsBefore, StopsUnread, StopsBehind}
 use Rattle.fe_desk.specs.Messages.{left_of, read_by}
 use Rattle.fe_desk.proofs.Emptying.{same_number}
 use Rattle.fe_desk.proofs.Answered.{posts_stand}
@@ -84,7 +86,7 @@ cut_holds begun asked s h = by (has_no_cut s.front) refl
           has = record { holders = n.has.holders; sessions = n.has.sessions };
         }
 
-    by : (b : Bool) → has_no_cut f ≡ b → Holds begun asked (if b then f else handed_out f) s.clients (handed_after s.handed (if b then None else Some batch)) s.groups
+    by : (b : Bool) → has_no_cut f ≡ b → Holds begun asked (if b then f else handed_out f) s.clients (option_map_or Cut (if b then None else Some batch) s.handed) s.groups
     by true is = h
     by false is =
         from_nothing (subst (λ (x : Handed). Holds begun asked f s.clients x s.groups) (out_there begun s.groups f s.handed h.way (none_out (is_some f.out) (nat_eq (length f.service.pending) 0) is)) h)

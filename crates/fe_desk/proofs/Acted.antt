@@ -1,5 +1,5 @@
 -- What a step does before the boxes are emptied, from the call that it makes.
-use Rattle.std.proofs.Common.{◌≡◌, ℕ, Vec, Global, true, false, List, [], Result, Ok, Err, refl, sym, ap, subst, ◌∙◌}
+use Rattle.std.proofs.Common.{◌≡◌, ℕ, Vec, Global, Bool, true, false, List, Result, Ok, Err, refl, sym, ap, subst, ◌∙◌}
 use Rattle.std.specs.Prelude.{OnOk, MatchResult}
 use Rattle.fe_memory.specs.Memory.{out_of_memory}
 use Rattle.fe_disk.specs.declared.disk.Disk.{Ghosts}
@@ -12,17 +12,15 @@ use Rattle.fe_desk.specs.declared.fault.DeskFault.TheVariants as desk
 use Rattle.fe_desk.specs.declared.step.Step.{Step}
 use Rattle.fe_desk.specs.declared.step.Step.TheVariants as step
 use Rattle.fe_desk.specs.DeskRunState.{DeskRunState, stored}
-use Rattle.fe_desk.specs.Steps.{find, Acts, IsAgain, TakesBytes}
-use Rattle.fe_desk.specs.Messages.{outputs, desk_fault_of}
+use Rattle.fe_desk.specs.Steps.{Acts}
+use Rattle.fe_desk.specs.Messages.{desk_fault_of}
 use Rattle.fe_desk.specs.Crash.{DeskState, Advances}
-use Rattle.fe_desk.specs.Ends.{Checks, Lacks, Tears, TearsStep, BreaksOff}
+use Rattle.fe_desk.specs.Ends.{Checks, Lacks, StopsShort, StoresMore, Tears, TearsStep, BreaksOff}
 use Rattle.fe_desk.specs.within.Desk.{IsDesk, IsReady, Stays}
-use Rattle.fe_desk.specs.within.Goes.{Goes, GoesAct, GoesPiece, Is, IsLacking, IsUnstored, LeavesStream, StopsStream, TakesStream}
+use Rattle.fe_desk.specs.within.Goes.{Goes, GoesAct, GoesPiece, Is, IsUnstored, StopsStream, TakesStream}
 use Rattle.fe_desk.proofs.Advancing.{advances_as, fine_as}
-use Rattle.fe_desk.proofs.Feeding.{same_reads}
 use Rattle.fe_desk.proofs.Goes.{CountsNow, OnlyNow, stays_same}
 use Rattle.fe_desk.proofs.Making.{advances_checked, desk_checked}
-use Rattle.fe_keeper.specs.Ends.{Works}
 
 -- what a call answered, in the words of a step
 abbrev pub IsTold : {T : Type 0} → Result T Fault → Result (Unit {0}) DeskFault → Type 0
@@ -42,68 +40,32 @@ module _ {D : Type 0} {k : Ghosts D} {y : Step} {a b : DeskState D} where
     ends = record { acts = acts; checked = checked; fine = fine_as k a b ready.works same.store };
   }
 
-  -- memory was short, and nothing was done
-  lacking : b ≡ a → Works k a.keeper b.keeper → Lacks false y a b → IsLacking k false a y b
-  lacking same fine lacks =
-      let is : b.run_state ≡ a.run_state = ap (λ (d : DeskState D). d.run_state) same in
-      record {
-        lacks = lacks;
-        read = same_reads a.run_state b.run_state is;
-        again = λ next t again h. subst (λ (s : DeskRunState). Acts s y t) is (subst (λ (z : Step). Acts b.run_state z t) again h);
-        silent = ap outputs is;
-        fine = fine;
-      }
-
   pub act_short : OnlyNow k → IsReady k a → b ≡ a → Lacks false y a b → GoesAct k a y (Err (desk.NoMemory out_of_memory false)) b
   act_short only_now ready same lacks =
       let still : Stays k a b = stays_same same in
-      record { desk = still.desk ready.desk; owes = still.owes; advances = advances_as k only_now a b ready.desk still.store; ends = lacking same (fine_as k a b ready.works still.store) lacks }
+      record { desk = still.desk ready.desk; owes = still.owes; advances = advances_as k only_now a b ready.desk still.store; ends = (lacks, fine_as k a b ready.works still.store) }
 
 -- ---- bytes
 
-given_empty : (s : DeskRunState) (conn : ℕ) (piece : Vec ℕ Global) (next : Step) (u : DeskRunState) → IsAgain true (step.Bytes conn piece) next → Acts s next u → TakesStream s conn [] u
-given_empty s conn piece (step.Bytes c p) u again h =
-    subst (λ (xs : List ℕ). TakesStream s conn xs u) again.1 (subst (λ (n : ℕ). TakesBytes s (find n s.clients) p.items u) again.0 h)
-given_empty s conn piece other u again h = absurd again
-
 module _ {D : Type 0} {k : Ghosts D} {a b : DeskState D} where
-  pub act_bytes : {q : Result (Unit {0}) DeskFault} (conn : ℕ) (piece : Vec ℕ Global) (slice : List ℕ) → slice ≡ piece.items → outputs b.run_state ≡ outputs a.run_state
-      → GoesPiece k (TakesStream a.run_state conn slice) (LeavesStream a.run_state conn slice) (StopsStream a.run_state conn slice) q a b → GoesAct k a (step.Bytes conn piece) q b
-  act_bytes {q} conn piece slice same silent h =
-      by q (subst (λ (xs : List ℕ). GoesPiece k (TakesStream a.run_state conn xs) (LeavesStream a.run_state conn xs) (StopsStream a.run_state conn xs) q a b) same h)
+  pub act_bytes : {q : Result (Unit {0}) DeskFault} (conn : ℕ) (piece : Vec ℕ Global) (slice : List ℕ) → slice ≡ piece.items
+      → GoesPiece k (TakesStream a.run_state conn slice) (λ fed t. StopsShort fed a.run_state conn slice t) (StopsStream a.run_state conn slice) q a b → GoesAct k a (step.Bytes conn piece) q b
+  act_bytes {q} conn piece slice same h =
+      by q (subst (λ (xs : List ℕ). GoesPiece k (TakesStream a.run_state conn xs) (λ fed t. StopsShort fed a.run_state conn xs t) (StopsStream a.run_state conn xs) q a b) same h)
     where
-      by : (q : Result (Unit {0}) DeskFault) → GoesPiece k (TakesStream a.run_state conn piece.items) (LeavesStream a.run_state conn piece.items) (StopsStream a.run_state conn piece.items) q a b → GoesAct k a (step.Bytes conn piece) q b
+      lacks : (fed : Bool) → StopsShort fed a.run_state conn piece.items b.run_state → StoresMore a b → Lacks fed (step.Bytes conn piece) a b
+      lacks false stops grows = (stops, grows)
+      lacks true stops grows = (stops, grows)
+
+      by : (q : Result (Unit {0}) DeskFault) → GoesPiece k (TakesStream a.run_state conn piece.items) (λ fed t. StopsShort fed a.run_state conn piece.items t) (StopsStream a.run_state conn piece.items) q a b → GoesAct k a (step.Bytes conn piece) q b
       by (Ok x) h = record { desk = h.desk; owes = h.owes; advances = h.advances; ends = record { acts = h.ends.1; checked = h.ends.0.grows; fine = h.ends.0.fine } }
       by (Err (desk.Store cause)) h = record {
         desk = h.desk;
         owes = h.owes;
         advances = h.advances;
-        ends = (h.ends.0, record { breaks = record { last = h.ends.1.last; stops = h.ends.1.until; tears = h.ends.1.tears }; silent = silent; failed = h.ends.1.failed });
+        ends = (h.ends.0, record { last = h.ends.1.last; stops = h.ends.1.until; tears = h.ends.1.tears }, h.ends.1.failed);
       }
-      by (Err (desk.NoMemory error false)) h = record {
-        desk = h.desk;
-        owes = h.owes;
-        advances = h.advances;
-        ends = record {
-          lacks = (h.ends.1.stops, h.ends.0.grows);
-          read = h.ends.1.read;
-          again = λ next u again acts. h.ends.1.again u (subst (λ (z : Step). Acts b.run_state z u) again acts);
-          silent = silent;
-          fine = h.ends.0.fine;
-        };
-      }
-      by (Err (desk.NoMemory error true)) h = record {
-        desk = h.desk;
-        owes = h.owes;
-        advances = h.advances;
-        ends = record {
-          lacks = (h.ends.1.stops, h.ends.0.grows);
-          read = h.ends.1.read;
-          again = λ next u again acts. h.ends.1.again u (given_empty b.run_state conn piece next u again acts);
-          silent = silent;
-          fine = h.ends.0.fine;
-        };
-      }
+      by (Err (desk.NoMemory error fed)) h = record { desk = h.desk; owes = h.owes; advances = h.advances; ends = (lacks fed h.ends.1 h.ends.0.grows, h.ends.0.fine) }
       by (Err (desk.Unwritten error)) h = absurd h.ends
 
   -- ---- the batch at hand is stored
@@ -116,9 +78,9 @@ module _ {D : Type 0} {k : Ghosts D} {a b : DeskState D} where
         desk = h.desk;
         owes = h.owes;
         advances = h.advances;
-        ends = (refl, record { breaks = subst (λ (s : DeskRunState). Tears s b) h.ends.until h.ends.tears; silent = ap outputs h.ends.tears.run_state ∙ ap outputs h.ends.until; failed = h.ends.failed });
+        ends = (refl, subst (λ (s : DeskRunState). Tears s b) h.ends.until h.ends.tears, h.ends.failed);
       }
-      of (NoMemory error) h = record { desk = h.desk; owes = h.owes; advances = h.advances; ends = lacking h.ends.1.same h.ends.0.fine (h.ends.1.at_hand, h.ends.1.same) }
+      of (NoMemory error) h = record { desk = h.desk; owes = h.owes; advances = h.advances; ends = ((h.ends.1.at_hand, h.ends.1.same), h.ends.0.fine) }
       of Failed h = absurd h.ends
       of (Mismatch place) h = absurd h.ends
       of (Damaged offset) h = absurd h.ends
@@ -150,7 +112,7 @@ module _ {D : Type 0} {k : Ghosts D} (y : Step) (d : DeskState D) (new : KeeperS
       advances = advances_checked k d new ready.desk rests.state rests.any_moment rests.honesty
 
       of : (f : Fault) → keeper.Fails k Cause d.keeper new f → GoesAct k d y (Err (desk_fault_of f false)) (with_keeper d new)
-      of Device h = record { desk = still; owes = refl; advances = advances; ends = (refl, record { breaks = breaks (record { run_state = refl; synced = refl }); silent = refl; failed = h.1 }) }
+      of Device h = record { desk = still; owes = refl; advances = advances; ends = (refl, breaks (record { run_state = refl; synced = refl }), h.1) }
       of Failed h = let had = h.0 in absurd (cc (had, works))
       of (NoMemory error) h =
           let same : new ≡ d.keeper = h.1.same in
@@ -159,7 +121,7 @@ module _ {D : Type 0} {k : Ghosts D} (y : Step) (d : DeskState D) (new : KeeperS
             desk = still;
             owes = refl;
             advances = advances;
-            ends = lacking is (record { before = works; after = ap (λ (j : KeeperState D). j.store.has_failed) same ∙ works; still = ap (λ (j : KeeperState D). k.failures j.store.disk) same }) (lacks h.0 is);
+            ends = (lacks h.0 is, record { before = works; after = ap (λ (j : KeeperState D). j.store.has_failed) same ∙ works; still = ap (λ (j : KeeperState D). k.failures j.store.disk) same });
           }
       of (Mismatch place) h = absurd (mismatch place h.0)
       of (Damaged offset) h = absurd h

@@ -20,13 +20,16 @@ use Rattle.fe_wire.specs.declared.server_message.ServerMessage.{ServerMessage}
 use Rattle.fe_front.specs.Front.{FrontState, has_room, is_connected}
 use Rattle.fe_front.specs.Steps as front
 use Rattle.fe_desk.specs.declared.handed.Handed.{Handed}
+use Rattle.std.specs.Option.{option_map_or}
 use Rattle.fe_desk.specs.declared.handed.Handed.TheVariants.{Nothing, Cut, Stored}
 use Rattle.fe_desk.specs.declared.step.Step.{Step}
 use Rattle.fe_desk.specs.declared.step.Step.TheVariants as step
 use Rattle.fe_desk.specs.Acknowledged.{IsAcknowledged, IsWritten, IsOnItsWay, StandsOn, AsksFor, HasNoneToPost, HasToldAll, cut_entries, entries_of, stored_groups}
 use Rattle.fe_desk.specs.Crash.{DeskState, IsFrom, desk_anew, unwritten_to}
-use Rattle.fe_desk.specs.DeskRunState.{Client, DeskRunState, handed_after, cut, stored_from, posted, posted_from, cleared, committed, made, is_making, begun_room, roomy, emptied, discharged}
-use Rattle.fe_desk.specs.Steps.{AreWritten, find, unmade, after_frame, TakesAll, TakesPiece, TakesBytes, Connects, Acts, DeskStep}
+use Rattle.fe_desk.specs.DeskRunState.{Client, DeskRunState, cut, stored_from, posted, posted_from, cleared, emptied, discharged}
+use Rattle.fe_desk.specs.Room.{begun_room, is_making, made, roomy, unmade}
+use Rattle.fe_desk.proofs.Reading.{committed}
+use Rattle.fe_desk.specs.Steps.{AreWritten, find, after_frame, TakesAll, TakesPiece, TakesBytes, Connects, Acts, DeskStep}
 
 -- ---- groups and their entries
 
@@ -98,7 +101,7 @@ module _ {D : Type 0} (begun : ServerState) (asked : ℕ → ℕ → Bool) where
 cut_none : (s : DeskRunState) → HasNoneToPost s.handed → HasNoneToPost (cut s).handed
 cut_none s none = by (front.next_batch s.front)
   where
-    by : (o : Option Batch) → HasNoneToPost (handed_after s.handed o)
+    by : (o : Option Batch) → HasNoneToPost (option_map_or Cut o s.handed)
     by None = none
     by (Some batch) = tt
 

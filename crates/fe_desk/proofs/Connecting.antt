@@ -13,8 +13,9 @@ use Rattle.fe_front.specs.Front.{FrontState, is_connected}
 use Rattle.fe_front.specs.Steps.{connected, dropped}
 use Rattle.fe_front.proofs.Keeping.{dropped-keeps}
 use Rattle.fe_desk.specs.declared.port.Port.{Port}
-use Rattle.fe_desk.specs.DeskRunState.{Client, DeskRunState, is_making}
-use Rattle.fe_desk.specs.Steps.{find, on_client, with_left, unmade, gone, new_client, clients_with, BeginsStream, Connects}
+use Rattle.fe_desk.specs.DeskRunState.{Client, DeskRunState}
+use Rattle.fe_desk.specs.Room.{is_making, unmade}
+use Rattle.fe_desk.specs.Steps.{find, on_client, with_left, gone, new_client, clients_with, BeginsStream, Connects}
 use Rattle.fe_desk.specs.within.Desk.{IsFirstAt, Joins, IsDesk, IsHanded, client_of, Stays}
 use Rattle.fe_desk.specs.Crash.{DeskState}
 use Rattle.fe_desk.specs.Acknowledged.{cut_entries}

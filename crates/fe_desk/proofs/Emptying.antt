@@ -19,16 +19,15 @@ use Rattle.fe_mail.proofs.Lookups.{mails_on-with_mails, mails_on-with_mails-besi
 use Rattle.fe_front.specs.Front.{FrontState, is_connected}
 use Rattle.fe_front.specs.Steps.{taken}
 use Rattle.fe_desk.specs.declared.port.Port.{Port}
-use Rattle.fe_desk.specs.within.Desk.{AreQuiet, IsQuiet, client_of, KeepsFront, KeepsEmpty, IsWrittenOutLater, AreWrittenOutLater}
-use Rattle.fe_messages.specs.Mails.{reply_of, spelled}
-use Rattle.fe_desk.specs.DeskRunState.{taken_times, emptied_box, output_of, Extends, Client, unwritten, written_out, all_written_out, all_emptied}
+use Rattle.fe_desk.specs.within.Desk.{IsQuiet, KeepsFront}
+use Rattle.fe_messages.specs.Mails.{spelled}
+use Rattle.fe_desk.specs.DeskRunState.{taken_times, emptied_box, Client, unwritten, written_out, all_written_out, all_emptied}
 use Rattle.fe_desk.specs.Steps.{find}
-use Rattle.fe_desk.proofs.Outputs.{extends_both, extends_at}
 
 -- ---- what stays, over calls one after another
 
 pub itself : (f : FrontState) → KeepsFront f f
-itself f = record { state = refl; pending = refl; out = refl; durable = refl; none_comes = λ conn there. there }
+itself f = record { state = refl; pending = refl; out = refl; durable = refl; none_comes = λ conn there. there; empty = λ conn box. box }
 
 pub both : (f g h : FrontState) → KeepsFront f g → KeepsFront g h → KeepsFront f h
 both f g h a b = record {
@@ -37,13 +36,8 @@ both f g h a b = record {
   out = b.out ∙ a.out;
   durable = b.durable ∙ a.durable;
   none_comes = λ conn there. a.none_comes conn (b.none_comes conn there);
+  empty = λ conn box. b.empty conn (a.empty conn box);
 }
-
-pub empty_itself : (f : FrontState) → KeepsEmpty f f
-empty_itself f = record { empty = λ conn box. box }
-
-pub empty_both : (f g h : FrontState) → KeepsEmpty f g → KeepsEmpty g h → KeepsEmpty f h
-empty_both f g h a b = record { empty = λ conn box. b.empty conn (a.empty conn box) }
 
 -- ---- one mail is taken
 
@@ -94,30 +88,24 @@ left_in f conn m ms box =
     ∙ ap (λ (xs : List Mail). drop 1 xs) box
 
 pub taken-keeps : (f : FrontState) (conn : ℕ) → KeepsFront f (taken f conn)
-taken-keeps f conn = by (nat_lt 0 (length (mails_on f.connections conn)))
+taken-keeps f conn = by (mails_on f.connections conn) refl
   where
-    by : (b : Bool) → KeepsFront f (if b then shorter f conn else f)
-    by false = itself f
-    by true = record {
-      state = refl;
-      pending = refl;
-      out = refl;
-      durable = refl;
-      none_comes = λ q there. sym (is_some-with_mails f.connections conn (drop 1 (mails_on f.connections conn)) q) ∙ there;
-    }
-
--- an empty box stays empty where a mail is taken
-pub taken-empty : (f : FrontState) (conn : ℕ) → KeepsEmpty f (taken f conn)
-taken-empty f conn = by (mails_on f.connections conn) refl
-  where
-    by : (xs : List Mail) → mails_on f.connections conn ≡ xs → KeepsEmpty f (taken f conn)
-    by [] box = subst (λ (g : FrontState). KeepsEmpty f g) (sym (nothing_taken f conn box)) (empty_itself f)
-    by (m ∷ ms) box = record {
-      empty = λ q none. elim (same_or_other q conn) [
-        | inl e ↦ absurd (omega (arith, ap length (sym box ∙ ap (λ (n : ℕ). mails_on f.connections n) (sym e) ∙ none)))
-        | inr ne ↦ ap (λ (g : FrontState). mails_on g.connections q) (taken_is f conn m ms box) ∙ mails_on-with_mails-beside f.connections conn (drop 1 (mails_on f.connections conn)) q ne ∙ none
-      ];
-    }
+    by : (xs : List Mail) → mails_on f.connections conn ≡ xs → KeepsFront f (taken f conn)
+    by [] box = subst (λ (g : FrontState). KeepsFront f g) (sym (nothing_taken f conn box)) (itself f)
+    by (m ∷ ms) box =
+        let left : List Mail = drop 1 (mails_on f.connections conn) in
+        subst (λ (g : FrontState). KeepsFront f g) (sym (taken_is f conn m ms box))
+        (record {
+          state = refl;
+          pending = refl;
+          out = refl;
+          durable = refl;
+          none_comes = λ q there. sym (is_some-with_mails f.connections conn left q) ∙ there;
+          empty = λ q none. elim (same_or_other q conn) [
+            | inl e ↦ absurd (omega (arith, ap length (sym box ∙ ap (λ (n : ℕ). mails_on f.connections n) (sym e) ∙ none)))
+            | inr ne ↦ mails_on-with_mails-beside f.connections conn left q ne ∙ none
+          ];
+        })
 
 -- ---- all mails of a connection are taken
 
@@ -125,22 +113,24 @@ pub times-keep : (n : ℕ) (f : FrontState) (conn : ℕ) → KeepsFront f (taken
 times-keep zero f conn = itself f
 times-keep (suc n) f conn = both f (taken f conn) (taken_times n (taken f conn) conn) (taken-keeps f conn) (times-keep n (taken f conn) conn)
 
-times-empty : (n : ℕ) (f : FrontState) (conn : ℕ) → KeepsEmpty f (taken_times n f conn)
-times-empty zero f conn = empty_itself f
-times-empty (suc n) f conn = empty_both f (taken f conn) (taken_times n (taken f conn) conn) (taken-empty f conn) (times-empty n (taken f conn) conn)
-
 pub emptied_box-keeps : (f : FrontState) (conn : ℕ) → KeepsFront f (emptied_box f conn)
 emptied_box-keeps f conn = times-keep (length (mails_on f.connections conn)) f conn
 
-pub emptied_box-empty : (f : FrontState) (conn : ℕ) → KeepsEmpty f (emptied_box f conn)
-emptied_box-empty f conn = times-empty (length (mails_on f.connections conn)) f conn
-
-none_left : (xs : List Mail) (f : FrontState) (conn : ℕ) → mails_on f.connections conn ≡ xs → mails_on (taken_times (length xs) f conn).connections conn ≡ []
-none_left [] f conn is = is
-none_left (x ∷ xs) f conn is = none_left xs (taken f conn) conn (left_in f conn x xs is)
+-- the mails after these are left
+pub left_behind : (xs ys : List Mail) (f : FrontState) (conn : ℕ) → mails_on f.connections conn ≡ xs ++ ys → mails_on (taken_times (length xs) f conn).connections conn ≡ ys
+left_behind [] ys f conn is = is
+left_behind (x ∷ xs) ys f conn is = left_behind xs ys (taken f conn) conn (left_in f conn x (xs ++ ys) is)
 
 pub box_emptied : (f : FrontState) (conn : ℕ) → mails_on (emptied_box f conn).connections conn ≡ []
-box_emptied f conn = none_left (mails_on f.connections conn) f conn refl
+box_emptied f conn = left_behind (mails_on f.connections conn) [] f conn (sym (append-nil (mails_on f.connections conn)))
+
+-- a box is emptied also where its first mails were taken before
+pub emptied_behind : (xs ys : List Mail) (f : FrontState) (conn : ℕ) → mails_on f.connections conn ≡ xs ++ ys → emptied_box (taken_times (length xs) f conn) conn ≡ emptied_box f conn
+emptied_behind [] ys f conn is = refl
+emptied_behind (x ∷ xs) ys f conn is =
+    let left : mails_on (taken f conn).connections conn ≡ xs ++ ys = left_in f conn x (xs ++ ys) is in
+    emptied_behind xs ys (taken f conn) conn left ∙ ap (λ (ms : List Mail). taken_times (length ms) (taken f conn) conn) left
+    ∙ sym (ap (λ (ms : List Mail). taken_times (length ms) f conn) is)
 
 -- an empty box is emptied by taking nothing
 pub nothing_emptied : (f : FrontState) (conn : ℕ) → mails_on f.connections conn ≡ [] → emptied_box f conn ≡ f
@@ -151,10 +141,6 @@ nothing_emptied f conn box = ap (λ (xs : List Mail). taken_times (length xs) f 
 pub all_emptied-keeps : (f : FrontState) (cs : List Client) → KeepsFront f (all_emptied f cs)
 all_emptied-keeps f [] = itself f
 all_emptied-keeps f (c ∷ cs) = both f (emptied_box f c.conn) (all_emptied (emptied_box f c.conn) cs) (emptied_box-keeps f c.conn) (all_emptied-keeps (emptied_box f c.conn) cs)
-
-pub all_emptied-empty : (f : FrontState) (cs : List Client) → KeepsEmpty f (all_emptied f cs)
-all_emptied-empty f [] = empty_itself f
-all_emptied-empty f (c ∷ cs) = empty_both f (emptied_box f c.conn) (all_emptied (emptied_box f c.conn) cs) (emptied_box-empty f c.conn) (all_emptied-empty (emptied_box f c.conn) cs)
 
 pub same_number : (a b : ℕ) → nat_eq a b ≡ true → a ≡ b
 same_number a b is = search (rules, nat_tests)
@@ -167,10 +153,10 @@ boxes_empty f (c ∷ cs) conn is = by (nat_eq c.conn conn) refl is (boxes_empty 
     by : (b : Bool) → nat_eq c.conn conn ≡ b → is_some (if b then Some c else find conn cs) ≡ true → (is_some (find conn cs) ≡ true → mails_on (all_emptied (emptied_box f c.conn) cs).connections conn ≡ [])
         → mails_on (all_emptied (emptied_box f c.conn) cs).connections conn ≡ []
     by true same there rest =
-        (all_emptied-empty (emptied_box f c.conn) cs).empty conn (subst (λ (n : ℕ). mails_on (emptied_box f c.conn).connections n ≡ []) (same_number c.conn conn same) (box_emptied f c.conn))
+        (all_emptied-keeps (emptied_box f c.conn) cs).empty conn (subst (λ (n : ℕ). mails_on (emptied_box f c.conn).connections n ≡ []) (same_number c.conn conn same) (box_emptied f c.conn))
     by false same there rest = rest there
 
--- ---- a client is written its mails, at once or some of them later
+-- ---- a client is written its mails
 
 pub quiet_written_out : (f : FrontState) (c : Client) → IsQuiet f c → written_out f c ≡ c
 quiet_written_out f c quiet =
@@ -180,108 +166,16 @@ quiet_written_out f c quiet =
     ∙ ap (λ (t : List ℕ). record c { reply = None; written = t }) (append-nil c.written)
     ∙ ap (λ (o : Option ServerMessage). record c { reply = o }) (sym quiet.reply)
 
-pub later_both : (f g h : FrontState) (c d e : Client) → IsWrittenOutLater f c g d → IsWrittenOutLater g d h e → IsWrittenOutLater f c h e
-later_both f g h c d e a b =
-    let one = a.output in
-    let two = b.output in
-    record {
-      conn = b.conn ∙ a.conn;
-      output = (one.0 ++ two.0, two.1 ∙ ap (λ (t : List ℕ). t ++ two.0) one.1 ∙ append_assoc c.written one.0 two.0);
-      front = b.front ∙ a.front;
-      client = b.client ∙ a.client;
-    }
-
-pub later_itself : (f : FrontState) (c : Client) → IsWrittenOutLater f c f c
-later_itself f c = record { conn = refl; output = ([], sym (append-nil c.written)); front = refl; client = refl }
-
--- the reply that waits is written
-pub waiting_written : (f : FrontState) (c d : Client) → d ≡ record c { reply = None; written = c.written ++ option_map_or reply_spelling c.reply [] } → IsWrittenOutLater f c f d
-waiting_written f c d is =
-    let frame : List ℕ = option_map_or reply_spelling c.reply [] in
-    let rest : List ℕ = spelled (mails_on f.connections c.conn) in
-    let here : IsWrittenOutLater f c f (record c { reply = None; written = c.written ++ frame }) = record {
-      conn = refl;
-      output = (frame, refl);
-      front = refl;
-      client = ap (λ (t : List ℕ). record c { reply = None; written = t }) (append_assoc c.written frame rest);
-    } in
-    subst (λ (x : Client). IsWrittenOutLater f c f x) (sym is) here
-
--- what the first mail of a box is, and what its taking leaves
-record TakesMail (f : FrontState) (conn : ℕ) (m : Mail) (g : FrontState) : Type 0 where
-  front : emptied_box g conn ≡ emptied_box f conn
-  bytes : spelled (mails_on f.connections conn) ≡ reply_spelling (reply_of m) ++ spelled (mails_on g.connections conn)
-  fewer : length (mails_on g.connections conn) < length (mails_on f.connections conn)
-
-takes_known : (f : FrontState) (conn : ℕ) (m : Mail) (ms : List Mail) → mails_on f.connections conn ≡ m ∷ ms → TakesMail f conn m (taken f conn)
-takes_known f conn m ms box =
-    let left : mails_on (taken f conn).connections conn ≡ ms = left_in f conn m ms box in
-    record {
-      front = ap (λ (xs : List Mail). taken_times (length xs) (taken f conn) conn) left ∙ sym (ap (λ (xs : List Mail). taken_times (length xs) f conn) box);
-      bytes = ap spelled box ∙ ap (λ (xs : List Mail). reply_spelling (reply_of m) ++ spelled xs) (sym left);
-      fewer = omega (arith, ap length left, ap length box);
-    }
-
 pub box_of : (ms : List Mail) (m : Mail) → Some m ≡ slice_get ms 0 → ms ≡ m ∷ drop 1 ms
 box_of [] m first = absurd (true≢false (ap (λ (o : Option Mail). is_some o) first))
 box_of (x ∷ ms) m first = ap (λ (y : Mail). y ∷ ms) (sym (same_Some _ _ first))
 
-takes_mail : (f : FrontState) (conn : ℕ) (m : Mail) → Some m ≡ slice_get (mails_on f.connections conn) 0 → TakesMail f conn m (taken f conn)
-takes_mail f conn m first = takes_known f conn m (drop 1 (mails_on f.connections conn)) (box_of (mails_on f.connections conn) m first)
-
 pub fewer_left : (f : FrontState) (conn : ℕ) (m : Mail) → Some m ≡ slice_get (mails_on f.connections conn) 0 → length (mails_on (taken f conn).connections conn) < length (mails_on f.connections conn)
-fewer_left f conn m first = (takes_mail f conn m first).fewer
+fewer_left f conn m first =
+    let box : mails_on f.connections conn ≡ m ∷ drop 1 (mails_on f.connections conn) = box_of (mails_on f.connections conn) m first in
+    omega (arith, ap length (left_in f conn m (drop 1 (mails_on f.connections conn)) box), ap length box)
 
--- a mail is taken, and written
-pub mail_written : (f : FrontState) (c : Client) (m : Mail) → c.reply ≡ None → Some m ≡ slice_get (mails_on f.connections c.conn) 0
-    → IsWrittenOutLater f c (taken f c.conn) (record c { written = c.written ++ reply_spelling (reply_of m) })
-mail_written f c m none first =
-    let t = takes_mail f c.conn m first in
-    let g : FrontState = taken f c.conn in
-    let frame : List ℕ = reply_spelling (reply_of m) in
-    let rest : List ℕ = spelled (mails_on g.connections c.conn) in
-    let same : (c.written ++ frame) ++ (option_map_or reply_spelling c.reply [] ++ rest) ≡ c.written ++ unwritten f c =
-    ap (λ (o : Option ServerMessage). (c.written ++ frame) ++ (option_map_or reply_spelling o [] ++ rest)) none
-    ∙ append_assoc c.written frame rest
-    ∙ ap (λ (t : List ℕ). c.written ++ t) (sym t.bytes)
-    ∙ ap (λ (o : Option ServerMessage). c.written ++ (option_map_or reply_spelling o [] ++ spelled (mails_on f.connections c.conn))) (sym none) in
-    record { conn = refl; output = (frame, refl); front = t.front; client = ap (λ (t : List ℕ). record c { reply = None; written = t }) same }
-
--- a mail is taken, and its reply waits
-pub mail_waits : (f : FrontState) (c : Client) (m : Mail) → c.reply ≡ None → Some m ≡ slice_get (mails_on f.connections c.conn) 0
-    → IsWrittenOutLater f c (taken f c.conn) (record c { reply = Some (reply_of m) })
-mail_waits f c m none first =
-    let t = takes_mail f c.conn m first in
-    let same : reply_spelling (reply_of m) ++ spelled (mails_on (taken f c.conn).connections c.conn) ≡ unwritten f c =
-    sym t.bytes ∙ ap (λ (o : Option ServerMessage). option_map_or reply_spelling o [] ++ spelled (mails_on f.connections c.conn)) (sym none) in
-    record { conn = refl; output = ([], sym (append-nil c.written)); front = t.front; client = ap (λ (t : List ℕ). record c { reply = None; written = c.written ++ t }) same }
-
--- the next mail is taken, and written
-pub next_written : (f : FrontState) (c : Client) (h : FrontState) (e : Client) (g : FrontState) (d : Client) (m : Mail) (r : ServerMessage) → IsWrittenOutLater f c h e → e.reply ≡ None
-    → Some m ≡ slice_get (mails_on h.connections e.conn) 0 → g ≡ taken h e.conn → r ≡ reply_of m → d ≡ record e { written = e.written ++ reply_spelling r } → IsWrittenOutLater f c g d
-next_written f c h e g d m r later none first front reply client =
-    let d' : Client = record e { written = e.written ++ reply_spelling (reply_of m) } in
-    let same : d ≡ d' = client ∙ ap (λ (x : ServerMessage). record e { written = e.written ++ reply_spelling x }) reply in
-    let step : IsWrittenOutLater f c (taken h e.conn) d' = later_both f h (taken h e.conn) c e d' later (mail_written h e m none first) in
-    subst (λ (x : Client). IsWrittenOutLater f c g x) (sym same) (subst (λ (x : FrontState). IsWrittenOutLater f c x d') (sym front) step)
-
--- the next mail is taken, and its reply waits
-pub next_waits : (f : FrontState) (c : Client) (h : FrontState) (e : Client) (g : FrontState) (d : Client) (m : Mail) (r : ServerMessage) → IsWrittenOutLater f c h e → e.reply ≡ None
-    → Some m ≡ slice_get (mails_on h.connections e.conn) 0 → g ≡ taken h e.conn → r ≡ reply_of m → d ≡ record e { reply = Some r } → IsWrittenOutLater f c g d
-next_waits f c h e g d m r later none first front reply client =
-    let d' : Client = record e { reply = Some (reply_of m) } in
-    let same : d ≡ d' = client ∙ ap (λ (x : ServerMessage). record e { reply = Some x }) reply in
-    let step : IsWrittenOutLater f c (taken h e.conn) d' = later_both f h (taken h e.conn) c e d' later (mail_waits h e m none first) in
-    subst (λ (x : Client). IsWrittenOutLater f c g x) (sym same) (subst (λ (x : FrontState). IsWrittenOutLater f c x d') (sym front) step)
-
--- what stays where the next mail is taken
-pub next_keeps : (f h g : FrontState) (conn : ℕ) → KeepsFront f h → g ≡ taken h conn → KeepsFront f g
-next_keeps f h g conn keeps front = subst (λ (x : FrontState). KeepsFront f x) (sym front) (both f h (taken h conn) keeps (taken-keeps h conn))
-
-pub next_empty : (f h g : FrontState) (conn : ℕ) → KeepsEmpty f h → g ≡ taken h conn → KeepsEmpty f g
-next_empty f h g conn keeps front = subst (λ (x : FrontState). KeepsEmpty f x) (sym front) (empty_both f h (taken h conn) keeps (taken-empty h conn))
-
--- and a mail less is left
+-- where the next mail is taken, a mail less is left
 pub fewer_after : (h g : FrontState) (conn next : ℕ) (m : Mail) → Some m ≡ slice_get (mails_on h.connections conn) 0 → g ≡ taken h conn → next ≡ conn → length (mails_on g.connections next) < length (mails_on h.connections conn)
 fewer_after h g conn next m first front same =
     subst (λ (n : ℕ). length (mails_on g.connections n) < length (mails_on h.connections conn)) (sym same)
@@ -294,13 +188,14 @@ on_any_err (Err e) p = p
 
 -- ---- client by client
 
-pub still_quiet : (f g : FrontState) (cs : List Client) → KeepsEmpty f g → AreQuiet f cs → AreQuiet g cs
+-- nothing is to be written to any of these
+abbrev pub AreQuiet : FrontState → List Client → Type 0
+AreQuiet f [] = Unit {0}
+AreQuiet f (c ∷ cs) = IsQuiet f c × AreQuiet f cs
+
+pub still_quiet : (f g : FrontState) (cs : List Client) → KeepsFront f g → AreQuiet f cs → AreQuiet g cs
 still_quiet f g [] keeps quiet = tt
 still_quiet f g (c ∷ cs) keeps quiet = (record { reply = quiet.0.reply; box = keeps.empty c.conn quiet.0.box }, still_quiet f g cs keeps quiet.1)
-
-quiet_append : (f : FrontState) (cs : List Client) (d : Client) → AreQuiet f cs → IsQuiet f d → AreQuiet f (cs ++ d ∷ [])
-quiet_append f [] d quiet one = (one, tt)
-quiet_append f (c ∷ cs) d quiet one = (quiet.0, quiet_append f cs d quiet.1 one)
 
 -- those are passed over
 pub quiet_all_emptied : (f : FrontState) (cs ds : List Client) → AreQuiet f cs → all_emptied f (cs ++ ds) ≡ all_emptied f ds
@@ -313,44 +208,6 @@ quiet_all_written_out f (c ∷ cs) ds quiet =
     ap (λ (d : Client). d ∷ all_written_out (emptied_box f c.conn) (cs ++ ds)) (quiet_written_out f c quiet.0)
     ∙ ap (λ (g : FrontState). c ∷ all_written_out g (cs ++ ds)) (nothing_emptied f c.conn quiet.0.box)
     ∙ ap (λ (es : List Client). c ∷ es) (quiet_all_written_out f cs ds quiet.1)
-
--- Some clients are done with, and the others are as they were: it comes to what it came to at the beginning.
-pub record IsWrittenOutSoFar (begun : FrontState) (first : List Client) (f : FrontState) (done left : List Client) : Type 0 where
-  pub front : all_emptied f left ≡ all_emptied begun first
-  pub clients : done ++ all_written_out f left ≡ all_written_out begun first
-  pub quiet : AreQuiet f done
-  pub output : Extends (map output_of first) (map output_of (done ++ left))
-
--- a client more
-pub one_written_out : (begun : FrontState) (first : List Client) (f : FrontState) (done : List Client) (c : Client) (left : List Client) (g : FrontState) (d : Client)
-    → IsWrittenOutSoFar begun first f done (c ∷ left) → g ≡ emptied_box f c.conn → d ≡ written_out f c → IsWrittenOutSoFar begun first g (done ++ d ∷ []) left
-one_written_out begun first f done c left g d far front client =
-    let h : FrontState = emptied_box f c.conn in
-    let e : Client = written_out f c in
-    let more : Extends (map output_of (done ++ c ∷ left)) (map output_of (done ++ e ∷ left)) = extends_at done c e left refl (unwritten f c, refl) in
-    let here : IsWrittenOutSoFar begun first h (done ++ e ∷ []) left = record {
-      front = far.front;
-      clients = append_assoc done (e ∷ []) (all_written_out h left) ∙ far.clients;
-      quiet = quiet_append h done e (still_quiet f h done (emptied_box-empty f c.conn) far.quiet) (record { reply = refl; box = box_emptied f c.conn });
-      output = subst (λ (cs : List Client). Extends (map output_of first) (map output_of cs)) (sym (append_assoc done (e ∷ []) left))
-          (extends_both (map output_of first) (map output_of (done ++ c ∷ left)) (map output_of (done ++ e ∷ left)) far.output more);
-    } in
-    subst (λ (x : Client). IsWrittenOutSoFar begun first g (done ++ x ∷ []) left) (sym client) (subst (λ (x : FrontState). IsWrittenOutSoFar begun first x (done ++ e ∷ []) left) (sym front) here)
-
--- a client more, of whose mails some are left
-pub rest_later : (begun : FrontState) (first : List Client) (f : FrontState) (done : List Client) (c : Client) (left : List Client) (g : FrontState) (d : Client)
-    → IsWrittenOutSoFar begun first f done (c ∷ left) → IsWrittenOutLater f c g d → KeepsEmpty f g → AreWrittenOutLater begun first g (done ++ d ∷ left)
-rest_later begun first f done c left g d far later keeps =
-    let quiet : AreQuiet g done = still_quiet f g done keeps far.quiet in
-    record {
-      front = quiet_all_emptied g done (d ∷ left) quiet ∙ ap (λ (x : FrontState). all_emptied x left) later.front ∙ far.front;
-      clients =
-          quiet_all_written_out g done (d ∷ left) quiet
-          ∙ ap (λ (x : Client). done ++ x ∷ all_written_out (emptied_box g d.conn) left) later.client
-          ∙ ap (λ (x : FrontState). done ++ written_out f c ∷ all_written_out x left) later.front
-          ∙ far.clients;
-      output = extends_both (map output_of first) (map output_of (done ++ c ∷ left)) (map output_of (done ++ d ∷ left)) far.output (extends_at done c d left later.conn later.output);
-    }
 
 -- ---- port by port
 
@@ -388,29 +245,3 @@ all_alike {B} f ports at p q lt is same =
     ∙ ap (λ (xs : List B). map f (take at ports) ++ xs) (sym (from_here f ports at p lt is))
     ∙ sym (map-append f (take at ports) (drop at ports))
     ∙ ap (λ (ps : List Port). map f ps) (take-append-drop at ports)
-
-abbrev pub IsWrittenOutTo : FrontState → List Client → FrontState → List Port → ℕ → Type 0
-IsWrittenOutTo begun first f ports at = IsWrittenOutSoFar begun first f (map client_of (take at ports)) (map client_of (drop at ports))
-
--- a port more
-pub port_written_out : (begun : FrontState) (first : List Client) (f g : FrontState) (ports : List Port) (at : ℕ) (p q : Port) → at < length ports → p ≡ get_or ports at p → IsWrittenOutTo begun first f ports at
-    → g ≡ emptied_box f p.conn → client_of q ≡ written_out f (client_of p) → IsWrittenOutTo begun first g (slice_set ports at q) (at + 1)
-port_written_out begun first f g ports at p q lt is far front client =
-    let behind : drop (at + 1) (slice_set ports at q) ≡ drop (at + 1) ports = drop-set-lt (at + 1) ports at q (omega arith) in
-    let before : map client_of (take (at + 1) (slice_set ports at q)) ≡ map client_of (take at ports) ++ client_of q ∷ [] =
-    ap (λ (ps : List Port). map client_of ps) (take_more_set ports at q lt) ∙ map-append client_of (take at ports) (q ∷ []) in
-    let here : IsWrittenOutSoFar begun first f (map client_of (take at ports)) (client_of p ∷ map client_of (drop (at + 1) ports)) =
-    subst (λ (cs : List Client). IsWrittenOutSoFar begun first f (map client_of (take at ports)) cs) (from_here client_of ports at p lt is) far in
-    let next : IsWrittenOutSoFar begun first g (map client_of (take at ports) ++ client_of q ∷ []) (map client_of (drop (at + 1) ports)) =
-    one_written_out begun first f (map client_of (take at ports)) (client_of p) (map client_of (drop (at + 1) ports)) g (client_of q) here front client in
-    subst (λ (ps : List Port). IsWrittenOutSoFar begun first g (map client_of (take (at + 1) (slice_set ports at q))) (map client_of ps)) (sym behind)
-    (subst (λ (cs : List Client). IsWrittenOutSoFar begun first g cs (map client_of (drop (at + 1) ports))) (sym before) next)
-
--- a port of whose mails some are left
-pub port_later : (begun : FrontState) (first : List Client) (f g : FrontState) (ports : List Port) (at : ℕ) (p q : Port) → at < length ports → p ≡ get_or ports at p → IsWrittenOutTo begun first f ports at
-    → IsWrittenOutLater f (client_of p) g (client_of q) → KeepsEmpty f g → AreWrittenOutLater begun first g (map client_of (slice_set ports at q))
-port_later begun first f g ports at p q lt is far later keeps =
-    let here : IsWrittenOutSoFar begun first f (map client_of (take at ports)) (client_of p ∷ map client_of (drop (at + 1) ports)) =
-    subst (λ (cs : List Client). IsWrittenOutSoFar begun first f (map client_of (take at ports)) cs) (from_here client_of ports at p lt is) far in
-    subst (λ (cs : List Client). AreWrittenOutLater begun first g cs) (sym (replaced client_of ports at q lt))
-    (rest_later begun first f (map client_of (take at ports)) (client_of p) (map client_of (drop (at + 1) ports)) g (client_of q) here later keeps)

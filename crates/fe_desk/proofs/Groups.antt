@@ -19,13 +19,13 @@ use Rattle.fe_front.specs.declared.out.Out.{Out}
 use Rattle.fe_keeper.specs.Stands.{StandsFor, StandsForEither, EachStandsFor, LeavesPrefix}
 use Rattle.fe_desk.specs.declared.handed.Handed.{Handed}
 use Rattle.fe_desk.specs.declared.handed.Handed.TheVariants.{Nothing, Cut, Stored}
-use Rattle.fe_desk.specs.DeskRunState.{DeskRunState, handing, stored, stored_from}
+use Rattle.fe_desk.specs.DeskRunState.{DeskRunState, stored, stored_from}
 use Rattle.fe_desk.specs.Steps.{find}
 use Rattle.fe_desk.proofs.Advancing.{prefix_more}
 use Rattle.fe_front.proofs.Coming.{pending-posted}
 use Rattle.fe_desk.specs.Crash.{DeskState, IsFrom, Advances, disk_of}
 use Rattle.fe_desk.specs.Acknowledged.{cut_entries}
-use Rattle.fe_desk.specs.within.Desk.{IsHanded, IsAhead, IsDesk, unstored}
+use Rattle.fe_desk.specs.within.Desk.{IsHanded, IsAhead, IsDesk, unstored, handing}
 use Rattle.fe_disk.specs.declared.disk.Disk.{Ghosts}
 
 -- ---- entries after entries

@@ -9,12 +9,11 @@ use Rattle.fe_state.specs.declared.entry.Entry.{Entry}
 use Rattle.fe_keeper.specs.Keeper.{KeeperState, made_room, appended, can_begin, begun, stepped, finished}
 use Rattle.fe_state.specs.declared.batch.Batch.{Batch}
 use Rattle.fe_desk.specs.declared.handed.Handed.TheVariants.{Cut}
-use Rattle.fe_desk.specs.DeskRunState.{handing}
 use Rattle.fe_desk.specs.declared.step.Step.{Step}
 use Rattle.fe_desk.specs.declared.step.Step.TheVariants as step
-use Rattle.fe_desk.specs.Crash.{DeskState, with_handed}
+use Rattle.fe_desk.specs.Crash.{DeskState}
 use Rattle.fe_desk.specs.Ends.{IsStoreNow, AreAppended, StoresMore, Checks}
-use Rattle.fe_desk.specs.within.Desk.{HasStore}
+use Rattle.fe_desk.specs.within.Desk.{HasStore, with_handed, handing}
 
 appended_both : {D : Type 0} (a b c : KeeperState D) (xs ys : List (List Entry)) → AreAppended a xs b → AreAppended b ys c → AreAppended a (xs ++ ys) c
 appended_both {D} a b c [] ys h k = subst (λ (s : KeeperState D). AreAppended s ys c) h k

@@ -22,8 +22,8 @@ use Rattle.fe_desk.specs.declared.handed.Handed.TheVariants.{Nothing, Cut, Store
 use Rattle.fe_desk.specs.DeskRunState.{taken_times, emptied_box, Client, DeskRunState, written_out, all_written_out, all_emptied, emptied, discharged}
 use Rattle.fe_desk.specs.Acknowledged.{StandsOn, IsOnItsWay, AsksFor, entries_of, cut_entries, made_entries}
 use Rattle.fe_desk.specs.Ends.{StopsWriting, WritesSome}
-use Rattle.fe_desk.specs.within.Desk.{KeepsFront}
-use Rattle.fe_desk.proofs.Emptying.{all_emptied-keeps, times-keep, itself}
+use Rattle.fe_desk.proofs.Emptying.{all_emptied-keeps, both}
+use Rattle.fe_desk.proofs.Writing.{stops_keeps}
 use Rattle.fe_desk.proofs.Messaging.{MayAsk, StandsTo}
 
 -- ---- what holds
@@ -150,7 +150,6 @@ module _ (begun : ServerState) (groups : List (List Entry)) (asked : ℕ → ℕ
 
   -- what is left of a client of whose mails some are written
   record Stops (f g : FrontState) (d : Client) : Type 0 where
-    keeps : KeepsFront f g
     loses : Loses f g
     stand : Stand g
     tells : Tells begun groups asked d
@@ -159,7 +158,6 @@ module _ (begun : ServerState) (groups : List (List Entry)) (asked : ℕ → ℕ
   stops_holds f c g d (inl still) all tell =
       let front = sym still.1 in
       record {
-        keeps = subst (λ (x : FrontState). KeepsFront f x) front (itself f);
         loses = subst (λ (x : FrontState). Loses f x) front (times_lose 0 f c.conn);
         stand = subst (λ (x : FrontState). Stand x) front all;
         tells = subst (λ (x : Client). Tells begun groups asked x) (sym still.2) tell;
@@ -173,7 +171,6 @@ module _ (begun : ServerState) (groups : List (List Entry)) (asked : ℕ → ℕ
       let here : Tells begun groups asked (record c { reply = Some (reply_of at.next); written = c.written ++ (option_map_or reply_spelling c.reply [] ++ spelled at.first) }) =
       (record { waits = (at.next, refl, box.1.0); mails = more.0; stand = more.1; spelling = more.2 }, tell.1) in
       record {
-        keeps = subst (λ (x : FrontState). KeepsFront f x) front (times-keep n f c.conn);
         loses = subst (λ (x : FrontState). Loses f x) front (times_lose n f c.conn);
         stand = subst (λ (x : FrontState). Stand x) front (times_stand n f c.conn all);
         tells = subst (λ (x : Client). Tells begun groups asked x) (sym at.client) here;
@@ -191,13 +188,13 @@ some_holds begun asked s t some h =
     let w = some.writes in
     let f : FrontState = all_emptied s.front w.before in
     let tells = all_split begun s.groups asked w.before (w.client ∷ w.behind) (subst (λ (cs : List Client). AllTell begun s.groups asked cs) w.all h.tell) in
-    let keeps = all_emptied-keeps s.front w.before in
+    let keeps = both s.front f some.front (all_emptied-keeps s.front w.before) (stops_keeps f w.client some.front w.last w.stops) in
     let stops = stops_holds begun s.groups asked f w.client some.front w.last w.stops (all_stand begun s.groups asked s.front w.before h.boxes) tells.1.0 in
     let written_out : AllTell begun s.groups asked (all_written_out s.front w.before ++ w.last ∷ w.behind) =
     all_append (Tells begun s.groups asked) (all_written_out s.front w.before) (w.last ∷ w.behind) (all_tell begun s.groups asked s.front w.before h.boxes tells.0) (stops.tells, tells.1.1) in
     subst (λ (x : DeskRunState). HoldsAt begun asked x) (sym some.after)
     (remains_hold begun asked s.front some.front s.clients some.clients s.handed s.groups
-    (record { state = stops.keeps.state ∙ keeps.state; pending = stops.keeps.pending ∙ keeps.pending; out = stops.keeps.out ∙ keeps.out; durable = stops.keeps.durable ∙ keeps.durable })
+    (record { state = keeps.state; pending = keeps.pending; out = keeps.out; durable = keeps.durable })
     (both_lose s.front f some.front (all_emptied_loses s.front w.before) stops.loses)
     stops.stand (subst (λ (cs : List Client). AllTell begun s.groups asked cs) (sym w.now) written_out) h)
 

@@ -2,6 +2,7 @@
 use Rattle.std.proofs.Common.{◌≡◌, ℕ, ◌<◌, Bool, true, false, true≢false, Ok, List, [], ◌∷◌, ◌++◌, length, map, Option, Some, None, refl, sym, ap, ◌∙◌, subst, append_assoc, get_or, arith}
 use Rattle.std.specs.Prelude.{⊤, is_some, slice_set, nat_lt}
 use Rattle.std.proofs.lemmas.Bool.Decides.{nat_tests}
+use Rattle.std.proofs.lemmas.List.{append-nil}
 use Rattle.std.specs.Option.{option_map}
 use Rattle.fe_keeper.specs.Keeper.{KeeperState}
 use Rattle.fe_disk.specs.declared.disk.Disk.{Ghosts}
@@ -11,16 +12,17 @@ use Rattle.fe_state.specs.declared.entry.Entry.{Entry}
 use Rattle.fe_state.proofs.Histories.{legal-append, after-append}
 use Rattle.fe_wire.specs.declared.client_message.ClientMessage.{ClientMessage}
 use Rattle.fe_front.specs.Front.{FrontState}
-use Rattle.fe_desk.specs.DeskRunState.{Client, DeskRunState, roomy}
+use Rattle.fe_desk.specs.DeskRunState.{Client, DeskRunState}
+use Rattle.fe_desk.specs.Room.{roomy}
 use Rattle.fe_messages.specs.Taking.{Takes, Enters}
 use Rattle.fe_desk.specs.Steps.{TakesOne, TakesAll, find, on_client, with_left}
-use Rattle.fe_desk.specs.Messages.{left_of, TakesNext, EndsWith}
+use Rattle.fe_desk.specs.Messages.{left_of}
 use Rattle.fe_desk.specs.within.Desk.{IsFirstAt, HasStore, Stays, IsAhead, IsDesk, IsReady, IsHanded, unstored, client_of}
 use Rattle.fe_desk.specs.Crash.{DeskState}
 use Rattle.fe_desk.specs.declared.port.Port.{Port}
 use Rattle.fe_desk.specs.Acknowledged.{cut_entries}
 use Rattle.fe_desk.proofs.Places.{numbers, numbers_changed, first_by_numbers, found_first, port_here, port_changed}
-use Rattle.fe_desk.proofs.Reading.{on_client-twice, find-on_client, found-on_client, relieved, none_left, left_among, with_clients, roomy-clients, roomy-keeps, takes_one_of, takes_all-append, on_client-stays}
+use Rattle.fe_desk.proofs.Reading.{on_client-twice, find-on_client, found-on_client, relieved, none_left, left_among, with_clients, roomy-clients, roomy-keeps, takes_all-append, on_client-stays}
 use Rattle.fe_desk.proofs.Advancing.{desk_as}
 use Rattle.fe_desk.specs.within.Goes.{Goes, Is}
 use Rattle.fe_desk.proofs.Goes.{OnlyNow, then, stays, stays_itself, after}
@@ -53,6 +55,16 @@ desk_enters {D} model old new es conn change same handed enters clients keeps de
     (λ k on. ap (λ (cs : List Client). is_some (find k cs)) clients ∙ found-on_client conn change old.run_state.clients k keeps ∙ desk.known k (enters.none_comes k on))
 
 -- ---- the port of a client
+
+-- The first message that is left of a connection is taken, maybe refused, by the front; the others are left.
+pub record TakesNext (s : DeskRunState) (conn : ℕ) (t : DeskRunState) : Type 0 where
+  pub message : ClientMessage
+  pub left : List ClientMessage
+  pub entries : List Entry
+  pub front : FrontState
+  pub first : left_of s conn ≡ message ∷ left
+  pub takes : Takes s.front conn message entries front
+  pub after : t ≡ record (with_left s conn left) { front = front }
 
 pub left_here : (ports : List Port) (conn at : ℕ) (p : Port) → IsFirstAt (map client_of ports) conn at → p ≡ get_or ports at p → left_among (find conn (map client_of ports)) ≡ (client_of p).left
 left_here ports conn at p place is = ap left_among (found_first (map client_of ports) conn at (client_of p) place (port_here ports conn at p place is))
@@ -114,15 +126,14 @@ next_one s r t conn room next =
 
 -- ---- as far as messages were taken
 
--- Messages of a connection that were left were taken as far as to a standing: those that are left there are taken on.
+-- The first messages that were left of a connection were taken, up to those that are left now.
 pub record IsTaken (conn : ℕ) (s t : DeskRunState) : Type 0 where
-  pub again : (v : DeskRunState) → TakesAll (with_left t conn []) conn (left_of t conn) v → TakesAll (with_left s conn []) conn (left_of s conn) v
   pub clients : t.clients ≡ on_client conn (relieved (left_of t conn)) s.clients
-  pub rest : EndsWith (left_of s conn) (left_of t conn)
-  pub took : TakesAll (with_left s conn []) conn rest.0 (with_left t conn [])
-  pub owes : t.owes ≡ s.owes
+  pub first : List ClientMessage
+  pub rest : left_of s conn ≡ first ++ left_of t conn
+  pub took : TakesAll (with_left s conn []) conn first (with_left t conn [])
 
-left-relieved : (conn : ℕ) (left : List ClientMessage) (cs : List Client) → is_some (find conn cs) ≡ true → left_among (find conn (on_client conn (relieved left) cs)) ≡ left
+pub left-relieved : (conn : ℕ) (left : List ClientMessage) (cs : List Client) → is_some (find conn cs) ≡ true → left_among (find conn (on_client conn (relieved left) cs)) ≡ left
 left-relieved conn left cs here = ap left_among (find-on_client conn (relieved left) cs (λ c. refl)) ∙ by (find conn cs) here
   where
     by : (found : Option Client) → is_some found ≡ true → left_among (option_map (relieved left) found) ≡ left
@@ -131,16 +142,15 @@ left-relieved conn left cs here = ap left_among (find-on_client conn (relieved l
 
 pub taken_none : (conn : ℕ) (s : DeskRunState) → IsTaken conn s s
 taken_none conn s = record {
-  again = λ v h. h;
   clients = sym (on_client-stays conn (relieved (left_of s conn)) s.clients (λ c here. ap (λ (left : List ClientMessage). relieved left c) (ap left_among here)));
-  rest = ([], refl);
+  first = [];
+  rest = refl;
   took = refl;
-  owes = refl;
 }
 
 -- one message more
-pub taken_next : (conn : ℕ) (s a r t : DeskRunState) → is_some (find conn s.clients) ≡ true → r ≡ roomy a conn → r.owes ≡ a.owes → IsTaken conn s a → TakesNext r conn t → IsTaken conn s t
-taken_next conn s a r t here room owes taken next =
+pub taken_next : (conn : ℕ) (s a r t : DeskRunState) → is_some (find conn s.clients) ≡ true → r ≡ roomy a conn → IsTaken conn s a → TakesNext r conn t → IsTaken conn s t
+taken_next conn s a r t here room taken next =
     let room_clients : r.clients ≡ a.clients = ap (λ (u : DeskRunState). u.clients) room ∙ roomy-keeps a conn in
     let before : left_of a conn ≡ next.message ∷ next.left = ap (λ (cs : List Client). left_among (find conn cs)) (sym room_clients) ∙ next.first in
     let clients : t.clients ≡ on_client conn (relieved next.left) s.clients =
@@ -148,16 +158,12 @@ taken_next conn s a r t here room owes taken next =
     ∙ on_client-twice conn (relieved (left_of a conn)) (relieved next.left) s.clients (λ c. refl) in
     let left : left_of t conn ≡ next.left = ap (λ (cs : List Client). left_among (find conn cs)) clients ∙ left-relieved conn next.left s.clients here in
     record {
-      again = λ v h.
-          taken.again v
-          (subst (λ (ms : List ClientMessage). TakesAll (with_left a conn []) conn ms v) (sym before)
-          (with_left t conn [], next_one a r t conn room next, subst (λ (ms : List ClientMessage). TakesAll (with_left t conn []) conn ms v) left h));
       clients = clients ∙ ap (λ (ms : List ClientMessage). on_client conn (relieved ms) s.clients) (sym left);
-      rest = (taken.rest.0 ++ next.message ∷ [], taken.rest.1 ∙ ap (λ (ms : List ClientMessage). taken.rest.0 ++ ms) (before ∙ ap (λ (ms : List ClientMessage). next.message ∷ ms) (sym left)) ∙ sym (append_assoc taken.rest.0 (next.message ∷ []) (left_of t conn)));
+      first = taken.first ++ next.message ∷ [];
+      rest = taken.rest ∙ ap (λ (ms : List ClientMessage). taken.first ++ ms) (before ∙ ap (λ (ms : List ClientMessage). next.message ∷ ms) (sym left)) ∙ sym (append_assoc taken.first (next.message ∷ []) (left_of t conn));
       took =
-          takes_all-append (with_left s conn []) conn taken.rest.0 (next.message ∷ []) (with_left a conn []) (with_left t conn []) taken.took
+          takes_all-append (with_left s conn []) conn taken.first (next.message ∷ []) (with_left a conn []) (with_left t conn []) taken.took
           (with_left t conn [], next_one a r t conn room next, refl);
-      owes = ap (λ (u : DeskRunState). u.owes) next.after ∙ owes ∙ taken.owes;
     }
 
 -- and one is left less
@@ -168,33 +174,16 @@ fewer_left a r t conn clients here next =
     ap (λ (u : DeskRunState). left_of u conn) next.after ∙ left-relieved conn next.left r.clients (ap (λ (cs : List Client). is_some (find conn cs)) clients ∙ here) in
     omega (arith, ap length before, ap length now)
 
-again_by : (conn : ℕ) (a u : DeskRunState) (ms : List ClientMessage) (v : DeskRunState) → 0 < length ms → roomy (with_left a conn []) conn ≡ roomy (with_left u conn []) conn
-    → TakesAll (with_left u conn []) conn ms v → TakesAll (with_left a conn []) conn ms v
-again_by conn a u [] v some same h = absurd (omega arith)
-again_by conn a u (m ∷ ms) v some same h = (h.0, takes_one_of (with_left u conn []) (with_left a conn []) conn m h.0 same h.1, h.2)
-
--- room was not made, and comes to the same later
-pub taken_still : (conn : ℕ) (s a u : DeskRunState) → 0 < length (left_of a conn) → roomy u conn ≡ roomy a conn → u.clients ≡ a.clients → IsTaken conn s a
-    → (v : DeskRunState) → TakesAll (with_left u conn []) conn (left_of u conn) v → TakesAll (with_left s conn []) conn (left_of s conn) v
-taken_still conn s a u some same clients taken v h =
-    let cs = on_client conn (relieved []) in
-    let left : left_of u conn ≡ left_of a conn = ap (λ (ds : List Client). left_among (find conn ds)) clients in
-    let room : roomy (with_left a conn []) conn ≡ roomy (with_left u conn []) conn =
-    roomy-clients a conn (cs a.clients) ∙ ap (λ (x : DeskRunState). with_clients x (cs a.clients)) (sym same)
-    ∙ ap (λ (ds : List Client). with_clients (roomy u conn) (cs ds)) (sym clients) ∙ sym (roomy-clients u conn (cs u.clients)) in
-    taken.again v (again_by conn a u (left_of a conn) v some room (subst (λ (ms : List ClientMessage). TakesAll (with_left u conn []) conn ms v) left h))
-
 -- no message is left
 pub taken_all : (conn : ℕ) (s t : DeskRunState) → left_of t conn ≡ [] → IsTaken conn s t → TakesAll (with_left s conn []) conn (left_of s conn) t
 taken_all conn s t none taken =
-    taken.again t (subst (λ (ms : List ClientMessage). TakesAll (with_left t conn []) conn ms t) (sym none) (sym (none_left t conn none)))
+    subst (λ (u : DeskRunState). TakesAll (with_left s conn []) conn (left_of s conn) u) (none_left t conn none)
+    (subst (λ (ms : List ClientMessage). TakesAll (with_left s conn []) conn ms (with_left t conn []))
+    (sym (taken.rest ∙ ap (λ (ms : List ClientMessage). taken.first ++ ms) none ∙ append-nil taken.first)) taken.took)
 
 pub clients_then : (conn : ℕ) (s a u : DeskRunState) → u.clients ≡ a.clients → IsTaken conn s a → u.clients ≡ (with_left s conn (left_of u conn)).clients
 clients_then conn s a u clients taken =
     clients ∙ taken.clients ∙ ap (λ (cs : List Client). on_client conn (relieved (left_among (find conn cs))) s.clients) (sym clients)
-
-pub rest_then : (conn : ℕ) (s a u : DeskRunState) → u.clients ≡ a.clients → IsTaken conn s a → EndsWith (left_of s conn) (left_of u conn)
-rest_then conn s a u clients taken = subst (λ (cs : List Client). EndsWith (left_of s conn) (left_among (find conn cs))) (sym clients) taken.rest
 
 -- ---- the loop
 
@@ -219,6 +208,6 @@ module _ {D : Type 0} {k : Ghosts D} (conn at : ℕ) where
       ap (λ (u : DeskRunState). numbers u.clients) next.after ∙ numbers_changed r.run_state.clients conn (relieved next.left) (λ c. refl) ∙ ap numbers clients in
       record {
         place = first_by_numbers a.run_state.clients t.run_state.clients conn at changed going.place;
-        taken = taken_next conn old.run_state a.run_state r.run_state t.run_state here room.ends.1 room.owes going.taken next;
+        taken = taken_next conn old.run_state a.run_state r.run_state t.run_state here room.ends.1 going.taken next;
         goes = after (then going.goes room) same tt;
       }

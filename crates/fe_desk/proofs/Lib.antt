@@ -29,7 +29,7 @@ pub mod Holding
 pub mod Acknowledging
 pub mod Clearing
 pub mod Answering
-pub mod Given
+pub mod GivenAgain
 pub mod ManyStops
 pub mod WithMail
 pub mod Bits

@@ -1,5 +1,5 @@
 -- Room is made, and a checkpoint goes on: what that leaves of a desk.
-use Rattle.std.proofs.Common.{◌≡◌, ◌⊎◌, inl, inr, ℕ, ◌≤◌, Bool, true, false, List, [], length, Some, None, is_some, refl, sym, ap, subst, ◌∙◌, arith, if◌then◌else◌}
+use Rattle.std.proofs.Common.{◌≡◌, ℕ, ◌≤◌, Bool, true, false, List, [], length, Some, None, is_some, refl, sym, ap, subst, ◌∙◌, arith, if◌then◌else◌}
 use Rattle.std.specs.Prelude.{◌↔◌, ◌||◌, nat_eq, nat_le}
 use Rattle.std.proofs.lemmas.Bool.Decides.{nat_tests}
 use Rattle.fe_disk.specs.Runs.{LeavesOnly}
@@ -11,8 +11,10 @@ use Rattle.fe_keeper.specs.Keeper.{KeeperState}
 use Rattle.fe_keeper.specs.Stands.{StandsFor}
 use Rattle.fe_desk.specs.declared.handed.Handed.{Handed}
 use Rattle.fe_desk.specs.declared.handed.Handed.TheVariants.{Nothing, Cut, Stored}
-use Rattle.fe_desk.specs.DeskRunState.{DeskRunState, cut, cleared, committed, made, is_making, with_room, begun_room, roomy}
+use Rattle.fe_desk.specs.DeskRunState.{DeskRunState, cut, cleared}
+use Rattle.fe_desk.specs.Room.{begun_room, is_making, made, with_room}
 use Rattle.fe_desk.specs.Crash.{DeskState, Advances, disk_of}
+use Rattle.fe_desk.proofs.Reading.{committed}
 use Rattle.fe_desk.specs.within.Desk.{IsDesk, IsAhead, IsHanded}
 use Rattle.fe_front.proofs.Keeping.{posted_all-keeps}
 use Rattle.fe_desk.proofs.Groups.{advances_kept, desk_kept}
@@ -60,24 +62,8 @@ committed_room s handed =
 pub begun_by : (s : DeskRunState) (conn : ℕ) (b : Bool) → is_making s conn ≡ b → begun_room s conn ≡ (if b then made (cleared s) else s)
 begun_by s conn b is = ap (λ (c : Bool). if c then made (cleared s) else s) is
 
--- room that was begun is gone on with once
-begun_twice : (s : DeskRunState) (conn : ℕ) → begun_room (begun_room s conn) conn ≡ begun_room s conn
-begun_twice s conn = by (is_making s conn) refl
-  where
-    by : (b : Bool) → is_making s conn ≡ b → begun_room (begun_room s conn) conn ≡ begun_room s conn
-    by true is = let done = begun_by s conn true is in ap (λ (t : DeskRunState). begun_room t conn) done ∙ sym done
-    by false is = ap (λ (t : DeskRunState). begun_room t conn) (begun_by s conn false is)
-
 pub room_by : (s : DeskRunState) (b : Bool) → has_room s.front ≡ b → with_room s ≡ (if b then s else made (committed (cleared s)))
 room_by s b is = ap (λ (c : Bool). if c then s else made (committed (cleared s))) is
-
--- because memory is short nothing was done, or what was done is gone on with
-pub roomy_later : (s mid t : DeskRunState) (conn : ℕ) → mid ≡ begun_room s conn → IsHanded mid.handed mid.front.out → has_room mid.front ≡ false
-    → (t ≡ mid) ⊎ (begun_room t conn ≡ made (committed (cleared mid))) → roomy t conn ≡ roomy s conn
-roomy_later s mid t conn begun handed none (inl is) = ap (λ (u : DeskRunState). roomy u conn) (is ∙ begun) ∙ ap with_room (begun_twice s conn)
-roomy_later s mid t conn begun handed none (inr is) =
-    let last : DeskRunState = made (committed (cleared mid)) in
-    ap with_room is ∙ room_by last true (committed_room mid handed) ∙ sym (room_by mid false none) ∙ ap with_room begun
 
 -- ---- a call of the keeper that keeps the replica
 

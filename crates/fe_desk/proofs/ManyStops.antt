@@ -23,7 +23,7 @@ use Rattle.fe_wire.specs.declared.server_message.ServerMessage.{ServerMessage}
 use Rattle.fe_keeper.specs.Damage.{StandsForOne}
 use Rattle.fe_desk.specs.Acknowledged.{AnswersStand, StandsOn, IsWritten, IsAcknowledged, entries_of, stored_groups}
 use Rattle.fe_desk.specs.Crash.{DeskState}
-use Rattle.fe_desk.specs.Lives.{Life, AreLives, kept_groups, Stop, all_groups, handed_by, stored_by, IsStopOf, LeadsTo, AreStops, FinishOnceIn, AreOneStore, StopsAreLives}
+use Rattle.fe_desk.specs.Lives.{Life, AreLives, kept_groups, Stop, all_groups, IsStopOf, LeadsTo, AreStops, FinishOnceIn, AreOneStore, StopsAreLives}
 use Rattle.fe_desk.specs.DeskRunState.{DeskRunState}
 use Rattle.fe_desk.proofs.Acknowledging.{entries-append, stands_behind}
 use Rattle.fe_desk.proofs.Clearing.{after_entries, place_after, below_after}
@@ -119,11 +119,12 @@ abbrev Later : Type 0 → ServerState → ServerState → List (List Entry) → 
 Later D begun s front = (asked : ℕ → ℕ → Bool) (d : DeskState D) → IsAcknowledged s asked d → AnswersStand begun (front ++ stored_groups d) asked d.run_state
 
 module _ {D : Type 0} where
-  lived : (begun s : ServerState) (stops : List (Stop D)) (lives : List Life) → map handed_by lives ≡ map stored_by stops → AreLives begun lives s
+  lived : (begun s : ServerState) (stops : List (Stop D)) (lives : List Life) → map (λ (life : Life). life.groups) lives ≡ map all_groups stops → map (λ (life : Life). life.synced) lives ≡ map (λ (x : Stop D). x.synced) stops → AreLives begun lives s
       → AllByRecursion (λ (x : Stop D). AnswersStand begun (kept_groups lives) x.asked x.last.run_state) stops → Later D begun s (kept_groups lives) → AreOneStore begun stops s
-  lived begun s stops lives same are answers later = record {
+  lived begun s stops lives groups synced are answers later = record {
     lives = lives;
-    same = same;
+    groups = groups;
+    synced = synced;
     are = are;
     one = λ next history. lives_join begun s lives next are history;
     once = λ next history. once_in begun (kept_groups lives ++ next) (lives_join begun s lives next are history).history;
@@ -147,7 +148,7 @@ module _ {D : Type 0} where
       let own : AnswersStand begun (front ++ kept_groups rest.lives) x.asked x.last.run_state =
       subst (λ (gs : List (List Entry)). AnswersStand begun gs x.asked x.last.run_state) whole
       (written_weaker begun begun first (first ++ (past.0 ++ kept_groups rest.lives)) x.asked (stands_behind begun first (past.0 ++ kept_groups rest.lives)) x.last.run_state is.lived.answers) in
-      lived begun s (x ∷ xs) (life ∷ rest.lives) (ap (λ (ls : List (List (List Entry) × ℕ)). (all_groups x, x.synced) ∷ ls) rest.same) (is.history, least, most, rest.are) (
+      lived begun s (x ∷ xs) (life ∷ rest.lives) (ap (λ (gs : List (List (List Entry))). all_groups x ∷ gs) rest.groups) (ap (λ (ns : List ℕ). x.synced ∷ ns) rest.synced) (is.history, least, most, rest.are) (
         own,
         all_weaker (λ (y : Stop D). AnswersStand (after_groups begun front) (kept_groups rest.lives) y.asked y.last.run_state) (λ (y : Stop D). AnswersStand begun (front ++ kept_groups rest.lives) y.asked y.last.run_state)
             (λ y w. written_weaker (after_groups begun front) begun (kept_groups rest.lives) (front ++ kept_groups rest.lives) y.asked (stands_after begun below front all (kept_groups rest.lives)) y.last.run_state w) xs rest.answers,
@@ -187,7 +188,7 @@ module _ {D : Type 0} where
 
     stops_lived : (begun s : ServerState) (stops : List (Stop D)) → KeepsBelow begun → AreStops begun stops s → AreOneStore begun stops s
     stops_lived begun s [] below is =
-        lived begun s [] [] refl is tt (λ asked d now. (subst (λ (z : ServerState). IsAcknowledged z asked d) is now).answers)
+        lived begun s [] [] refl refl is tt (λ asked d now. (subst (λ (z : ServerState). IsAcknowledged z asked d) is now).answers)
     stops_lived begun s (x ∷ xs) below is =
         let stop : IsStopOf begun x = is.0 in
         let ends : End begun x is.1.0 = end_of begun x is.1.0 stop x.image is.1.1 in

@@ -8,10 +8,15 @@ use Rattle.fe_desk.specs.declared.handed.Handed.{Handed}
 use Rattle.fe_desk.specs.declared.handed.Handed.TheVariants.{Nothing, Cut, Stored}
 use Rattle.fe_desk.specs.declared.step.Step.{Step}
 use Rattle.fe_desk.specs.declared.step.Step.TheVariants as step
-use Rattle.fe_desk.specs.DeskRunState.{emptied_box, output_of, Extends, Client, DeskRunState, unwritten, all_written_out, stored, stored_from, posted, posted_from, is_making}
+use Rattle.fe_desk.specs.DeskRunState.{emptied_box, Extends, Client, DeskRunState, unwritten, all_written_out, stored, stored_from, posted, posted_from}
+use Rattle.fe_desk.specs.Room.{is_making, unmade}
 use Rattle.fe_desk.specs.Messages.{outputs}
-use Rattle.fe_desk.specs.Steps.{find, on_client, with_left, with_decoder, new_client, clients_with, unmade, Connects, gone, TakesPiece, TakesFrom, TakesBytes, after_frame, Acts}
+use Rattle.fe_desk.specs.Steps.{find, on_client, with_left, with_decoder, new_client, clients_with, Connects, gone, TakesPiece, TakesFrom, TakesBytes, after_frame, Acts}
 use Rattle.fe_desk.proofs.Reading.{each-on_client, takes_all-keeps}
+
+-- a client's connection number, and what was written to it
+abbrev pub output_of : Client → ℕ × List ℕ
+output_of c = (c.conn, c.written)
 
 pub extends_itself : (xs : List (ℕ × List ℕ)) → Extends xs xs
 extends_itself [] = tt
@@ -28,12 +33,6 @@ extends_both (x ∷ xs) (y ∷ ys) (z ∷ zs) e f =
 
 pub extends_as : (xs ys : List (ℕ × List ℕ)) → ys ≡ xs → Extends xs ys
 extends_as xs ys same = subst (λ (zs : List (ℕ × List ℕ)). Extends xs zs) (sym same) (extends_itself xs)
-
--- a client is written more
-pub extends_at : (done : List Client) (c d : Client) (left : List Client) → d.conn ≡ c.conn → (more : List ℕ) × (d.written ≡ c.written ++ more)
-    → Extends (map output_of (done ++ c ∷ left)) (map output_of (done ++ d ∷ left))
-extends_at [] c d left conn more = (conn, more, extends_itself (map output_of left))
-extends_at (x ∷ done) c d left conn more = (refl, ([], sym (append-nil x.written)), extends_at done c d left conn more)
 
 -- a client comes
 extends_behind : (cs : List Client) (d : Client) → Extends (map output_of cs) (map output_of (cs ++ d ∷ []))

@@ -1,5 +1,5 @@
 -- A piece of a connection's stream: what is left of it is taken, and then what the piece completes.
-use Rattle.std.proofs.Common.{◌≡◌, ◌≢◌, inl, inr, ℕ, Bool, true, false, List, [], map, Option, Some, None, refl, sym, ap, ◌∙◌, subst, get_or, if◌then◌else◌, MatchBool}
+use Rattle.std.proofs.Common.{◌≡◌, inr, ℕ, Bool, true, false, List, [], map, Option, Some, None, refl, sym, ap, ◌∙◌, subst, get_or, MatchBool}
 use Rattle.std.specs.Prelude.{is_some, slice_set}
 use Rattle.std.specs.Option.{option_map}
 use Rattle.std.proofs.lemmas.Option.{same_Some}
@@ -7,16 +7,15 @@ use Rattle.fe_wire.specs.Stream.{Decoding, CompletesMessage}
 use Rattle.fe_wire.specs.declared.client_message.ClientMessage.{ClientMessage}
 use Rattle.fe_front.specs.Front.{is_connected}
 use Rattle.fe_desk.specs.declared.port.Port.{Port}
-use Rattle.fe_desk.specs.DeskRunState.{Client, DeskRunState, is_making}
-use Rattle.fe_desk.specs.Steps.{TakesAll, find, on_client, with_left, with_decoder, gone, after_frame, Reads, TakesPiece, TakesFrom, TakesBytes}
-use Rattle.fe_desk.specs.Messages.{left_of, outputs, read_by, EndsWith, ReadsNone}
-use Rattle.fe_desk.specs.Ends.{TakesFirst, StopsBefore, StopsBehind}
+use Rattle.fe_desk.specs.DeskRunState.{Client, DeskRunState}
+use Rattle.fe_desk.specs.Steps.{TakesAll, find, on_client, with_left, with_decoder, after_frame, Reads, TakesPiece, TakesFrom, TakesBytes}
+use Rattle.fe_desk.specs.Messages.{left_of}
+use Rattle.fe_desk.specs.Ends.{TakesFirst, StopsBefore, StopsBehind, StopsShort}
 use Rattle.fe_desk.specs.Crash.{DeskState}
 use Rattle.fe_desk.specs.within.Desk.{IsFirstAt, IsDesk, client_of}
-use Rattle.fe_desk.specs.within.Goes.{LeavesSome, LeavesStream, TakesLeft, TakesStream}
+use Rattle.fe_desk.specs.within.Goes.{TakesLeft, TakesStream}
 use Rattle.fe_desk.proofs.Places.{found_first, number_here, client_there, numbers, numbers_changed, first_by_numbers, port_here, port_changed}
-use Rattle.fe_desk.proofs.Reading.{on_client-twice, find-on_client, on_client-alike, on_client-stays, found-on_client, each-on_client, relieved, left_among, left_emptied, takes_all-keeps, first_again, piece_again, later_again}
-use Rattle.fe_desk.proofs.Feeding.{read_among, read_kept, find_other}
+use Rattle.fe_desk.proofs.Reading.{on_client-twice, find-on_client, on_client-alike, on_client-stays, found-on_client, relieved, left_among, left_emptied, takes_all-keeps}
 use Rattle.fe_desk.proofs.Advancing.{desk_as}
 use Rattle.fe_disk.specs.declared.disk.Disk.{Ghosts}
 
@@ -29,44 +28,27 @@ pub record IsHere (s : DeskRunState) (conn : ℕ) (c : Client) : Type 0 where
 same_here : (s : DeskRunState) (conn : ℕ) (c d : Client) → IsHere s conn c → IsHere s conn d → c ≡ d
 same_here s conn c d here there = same_Some c d (sym here.found ∙ there.found)
 
-here_changed : (s t : DeskRunState) (conn : ℕ) (c : Client) (change : Client → Client) → ((d : Client) → (change d).conn ≡ d.conn) → t.clients ≡ on_client conn change s.clients → IsHere s conn c → IsHere t conn (change c)
+pub here_changed : (s t : DeskRunState) (conn : ℕ) (c : Client) (change : Client → Client) → ((d : Client) → (change d).conn ≡ d.conn) → t.clients ≡ on_client conn change s.clients → IsHere s conn c → IsHere t conn (change c)
 here_changed s t conn c change keeps clients here =
     record {
       found = ap (find conn) clients ∙ find-on_client conn change s.clients keeps ∙ ap (option_map change) here.found;
       number = keeps c ∙ here.number;
     }
 
-bytes_from : (s : DeskRunState) (conn : ℕ) (c : Client) (piece : List ℕ) (t : DeskRunState) → IsHere s conn c → TakesFrom s conn (left_of s conn) c.decoder piece t → TakesBytes s (find conn s.clients) piece t
+pub bytes_from : (s : DeskRunState) (conn : ℕ) (c : Client) (piece : List ℕ) (t : DeskRunState) → IsHere s conn c → TakesFrom s conn (left_of s conn) c.decoder piece t → TakesBytes s (find conn s.clients) piece t
 bytes_from s conn c piece t here h =
     subst (λ (o : Option Client). TakesBytes s o piece t) (sym here.found)
     (subst (λ (n : ℕ). TakesFrom s n c.left c.decoder piece t) (sym here.number)
     (subst (λ (ms : List ClientMessage). TakesFrom s conn ms c.decoder piece t) (ap left_among here.found) h))
 
-from_bytes : (s : DeskRunState) (conn : ℕ) (c : Client) (piece : List ℕ) (t : DeskRunState) → IsHere s conn c → TakesBytes s (find conn s.clients) piece t → TakesFrom s conn (left_of s conn) c.decoder piece t
+pub from_bytes : (s : DeskRunState) (conn : ℕ) (c : Client) (piece : List ℕ) (t : DeskRunState) → IsHere s conn c → TakesBytes s (find conn s.clients) piece t → TakesFrom s conn (left_of s conn) c.decoder piece t
 from_bytes s conn c piece t here h =
     subst (λ (ms : List ClientMessage). TakesFrom s conn ms c.decoder piece t) (sym (ap left_among here.found))
     (subst (λ (n : ℕ). TakesFrom s n c.left c.decoder piece t) here.number (subst (λ (o : Option Client). TakesBytes s o piece t) here.found h))
 
-outputs_changed : (s t : DeskRunState) (conn : ℕ) (change : Client → Client) → ((d : Client) → (change d).conn ≡ d.conn) → ((d : Client) → (change d).written ≡ d.written) → t.clients ≡ on_client conn change s.clients → outputs t ≡ outputs s
-outputs_changed s t conn change keeps stays clients =
-    let part : Client → ℕ × List ℕ = λ c. (c.conn, c.written) in
-    let same : (c : Client) → part (change c) ≡ part c = λ c. let n = keeps c in let w = stays c in cc in
-    ap (map part) clients ∙ each-on_client part conn change s.clients same
-
 -- a client that read a piece
 abbrev pub reading : Decoding → List ClientMessage → Client → Client
 reading decoder more c = record c { decoder = decoder; left = more }
-
--- a connection that is gone is written nothing more
-pub gone_outputs : (s : DeskRunState) (conn : ℕ) → outputs (gone s conn) ≡ outputs s
-gone_outputs s conn = by (is_making s conn)
-  where
-    left : (u : DeskRunState) → outputs (with_left u conn []) ≡ outputs u
-    left u = outputs_changed u (with_left u conn []) conn (relieved []) (λ d. refl) (λ d. refl) refl
-
-    by : (b : Bool) → outputs (record (with_left (if b then record s { making = None } else s) conn []) { front = (gone s conn).front }) ≡ outputs s
-    by true = left (record s { making = None })
-    by false = left s
 
 -- ---- the port of the client
 
@@ -97,16 +79,6 @@ desk_reads model b conn change cs keeps clients is =
     (record { handed = is.tied.handed; legal = is.tied.legal; state = is.tied.state })
     (λ k on. ap (λ (ds : List Client). is_some (find k ds)) clients ∙ found-on_client conn change b.run_state.clients k keeps ∙ is.known k on)
 
--- ---- what connections have read
-
--- nothing else, where only messages were taken
-left_reads_none : (s t : DeskRunState) (conn : ℕ) (left : List ClientMessage) → t.clients ≡ on_client conn (relieved left) s.clients → ReadsNone s t
-left_reads_none s t conn left clients k = ap (λ (cs : List Client). read_among k cs) clients ∙ read_kept k conn (relieved left) s.clients (λ c. refl) (λ c. refl)
-
--- another than the connection that did
-others_read : (s t : DeskRunState) (conn : ℕ) (change : Client → Client) → ((c : Client) → (change c).conn ≡ c.conn) → t.clients ≡ on_client conn change s.clients → (k : ℕ) → k ≢ conn → read_by t k ≡ read_by s k
-others_read s t conn change keeps clients k other = ap (λ (cs : List Client). read_among k cs) clients ∙ ap (option_map (λ (c : Client). c.decoder)) (find_other k conn change s.clients other keeps)
-
 -- ---- the messages that were left are taken
 
 -- the connection's client is there, and messages of it were taken; of the clients nothing else changed
@@ -131,9 +103,6 @@ all_taken conn s u taken = ap (λ (cs : List Client). left_among (find conn cs))
 pub stream_unknown : (s : DeskRunState) (conn : ℕ) (piece : List ℕ) → find conn s.clients ≡ None → TakesStream s conn piece s
 stream_unknown s conn piece none = subst (λ (o : Option Client). TakesBytes s o piece s) (sym none) refl
 
-pub left_outputs : (conn : ℕ) (s u : DeskRunState) → u.clients ≡ (with_left s conn (left_of u conn)).clients → outputs u ≡ outputs s
-left_outputs conn s u clients = outputs_changed s u conn (relieved (left_of u conn)) (λ d. refl) (λ d. refl) clients
-
 module _ {conn : ℕ} {s u : DeskRunState} (piece : List ℕ) (is : IsRelieved conn s u) where
   here_left : IsHere u conn (relieved (left_of u conn) is.client)
   here_left = here_changed s u conn is.client (relieved (left_of u conn)) (λ d. refl) is.clients is.here
@@ -142,16 +111,6 @@ module _ {conn : ℕ} {s u : DeskRunState} (piece : List ℕ) (is : IsRelieved c
   pub port_reads : (ports : List Port) (at : ℕ) (p : Port) → u.clients ≡ map client_of ports → IsFirstAt (map client_of ports) conn at → p ≡ get_or ports at p → p.decoder ≡ is.client.decoder
   port_reads ports at p clients place value =
       ap (λ (d : Client). d.decoder) (same_here u conn (client_of p) (relieved (left_of u conn) is.client) (port_is_here u ports conn at p clients place value) here_left)
-
-  -- they were not all taken
-  pub stream_left : LeavesSome s conn u → LeavesStream s conn piece false u
-  stream_left some = record {
-    stops = inl some.stops;
-    read = left_reads_none s u conn (left_of u conn) is.clients;
-    again = λ t h.
-        bytes_from s conn is.client piece t is.here
-        (first_again s u conn (left_of s conn) (left_of u conn) is.client.decoder piece t some.again (from_bytes u conn (relieved (left_of u conn) is.client) piece t here_left h));
-  }
 
   -- they were, and the connection is not there
   pub stream_off : TakesLeft s conn u → is_connected u.front conn ≡ false → TakesStream s conn piece u
@@ -164,17 +123,9 @@ module _ {conn : ℕ} {s u : DeskRunState} (piece : List ℕ) (is : IsRelieved c
       })
 
   -- they were, and the piece was not read
-  pub stream_unread : TakesLeft s conn u → is_connected u.front conn ≡ true → CompletesMessage is.client.decoder piece → LeavesStream s conn piece false u
+  pub stream_unread : TakesLeft s conn u → is_connected u.front conn ≡ true → CompletesMessage is.client.decoder piece → StopsShort false s conn piece u
   stream_unread taken on completes =
-      let none = all_taken conn s u taken in
-      record {
-        stops = inr (record { unread = record { leftovers = taken; there = on }; before = is.client.decoder; was = ap (option_map (λ (d : Client). d.decoder)) is.here.found; completes = completes });
-        read = left_reads_none s u conn (left_of u conn) is.clients;
-        again = λ t h.
-            bytes_from s conn is.client piece t is.here
-            (piece_again s u conn (left_of s conn) is.client.decoder piece t taken none
-            (subst (λ (ms : List ClientMessage). TakesFrom u conn ms is.client.decoder piece t) none (from_bytes u conn (relieved (left_of u conn) is.client) piece t here_left h)));
-      }
+      inr (record { unread = record { leftovers = taken; there = on }; before = is.client.decoder; was = ap (option_map (λ (d : Client). d.decoder)) is.here.found; completes = completes })
 
 -- ---- the piece is read
 
@@ -228,9 +179,6 @@ module _ {conn : ℕ} {piece : List ℕ} {s u m : DeskRunState} {decoder : Decod
   took_more v h =
       subst (λ (t : DeskRunState). TakesAll t conn more v) begins (subst (λ (ms : List ClientMessage). TakesAll (with_left m conn []) conn ms v) left_now h)
 
-  pub fed_outputs : outputs m ≡ outputs s
-  fed_outputs = outputs_changed u m conn (reading decoder more) (λ d. refl) (λ d. refl) clients_are ∙ left_outputs conn s u fed.relieved_is.clients
-
   pub fed_stops : (v : DeskRunState) → StopsBefore m conn v → StopsBehind s conn piece v
   fed_stops v h = record {
     mid = u;
@@ -242,31 +190,6 @@ module _ {conn : ℕ} {piece : List ℕ} {s u m : DeskRunState} {decoder : Decod
     reads = fed.reads;
     first = subst (λ (t : DeskRunState). TakesFirst t conn more v) begins (subst (λ (ms : List ClientMessage). TakesFirst (with_left m conn []) conn ms v) left_now h);
   }
-
-  -- not all messages of the piece were taken
-  pub stream_more : (n : DeskRunState) → n.clients ≡ (with_left m conn (left_of n conn)).clients → EndsWith (left_of m conn) (left_of n conn) → LeavesSome m conn n → LeavesStream s conn piece true n
-  stream_more n clients rest still =
-      let last = relieved (left_of n conn) (reading decoder more (relieved (left_of u conn) here)) in
-      let there : IsHere n conn last = here_changed m n conn (reading decoder more (relieved (left_of u conn) here)) (relieved (left_of n conn)) (λ d. refl) clients now in
-      record {
-        stops = fed_stops n still.stops;
-        read = record {
-          before = here.decoder;
-          after = decoder;
-          taken = rest.0;
-          was = ap (option_map (λ (d : Client). d.decoder)) fed.relieved_is.here.found;
-          is = ap (option_map (λ (d : Client). d.decoder)) there.found;
-          reads = subst (λ (ms : List ClientMessage). Reads here.decoder decoder piece ms) (sym left_now ∙ rest.1) fed.reads;
-          some = still.still;
-          others = λ k other.
-              left_reads_none m n conn (left_of n conn) clients k ∙ others_read u m conn (reading decoder more) (λ d. refl) clients_are k other
-              ∙ left_reads_none s u conn (left_of u conn) fed.relieved_is.clients k;
-        };
-        again = λ t h.
-            bytes_from s conn here piece t fed.relieved_is.here
-            (later_again s u n conn (left_of s conn) (left_of n conn) here.decoder decoder piece t fed.taken fed.there
-            (record { more = more; reads = fed.reads; some = still.still; again = λ v k. took_more v (still.again v k) }) (from_bytes n conn last [] t there h));
-      }
 
   -- all messages of the piece were taken
   pub stream_all : (n p : DeskRunState) → TakesLeft m conn n → p ≡ after_frame decoder.is_bad n conn → TakesStream s conn piece p

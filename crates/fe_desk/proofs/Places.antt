@@ -227,3 +227,15 @@ place_some conn ports (Some at) e = first_searched conn ports at (sym e)
 pub place_none : (conn : ℕ) (ports : List Port) (r : Option ℕ) → r ≡ position (λ p. nat_eq p.conn conn) ports → IfNone r (find conn (map client_of ports) ≡ None)
 place_none conn ports None e = none_searched conn ports (sym e)
 place_none conn ports (Some at) e = tt
+
+-- the client that is found has the number
+pub found_number : (conn : ℕ) (clients : List Client) (c : Client) → find conn clients ≡ Some c → c.conn ≡ conn
+found_number conn [] c is = absurd (true≢false (sym (ap is_some is)))
+found_number conn (x ∷ xs) c is = by (nat_eq x.conn conn) refl (found_number conn xs c) is
+  where
+    number : nat_eq x.conn conn ≡ true → x.conn ≡ conn
+    number same = grind (arith, nat_tests)
+
+    by : (b : Bool) → nat_eq x.conn conn ≡ b → (find conn xs ≡ Some c → c.conn ≡ conn) → (if b then Some x else find conn xs) ≡ Some c → c.conn ≡ conn
+    by true same rest is = ap (λ (y : Client). y.conn) (sym (same_Some x c is)) ∙ number same
+    by false other rest is = rest is

@@ -7,7 +7,8 @@ use Rattle.std.proofs.lemmas.Option.{same_Some}
 use Rattle.std.proofs.lemmas.Bool.{cases_eq}
 use Rattle.std.proofs.lemmas.List.{length-map}
 use Rattle.indexmap.specs.IndexMap.{IndexMap, Updates, IsUnchanged, get}
-use Rattle.fe_desk.specs.DeskRunState.{Client, Extends, output_of}
+use Rattle.fe_desk.specs.DeskRunState.{Client, Extends}
+use Rattle.fe_desk.proofs.Outputs.{output_of}
 use Rattle.fe_desk.specs.Crash.{unwritten_to}
 use Rattle.fe_desk.specs.declared.port_places.PortPlaces.{PortPlaces}
 use Rattle.fe_front.specs.Posting.{remainder_count}

@@ -10,14 +10,15 @@ use Rattle.fe_desk.specs.declared.step.Step.TheVariants as step
 use Rattle.fe_desk.specs.DeskRunState.{emptied_box, Client, DeskRunState, all_emptied, all_written_out, emptied, discharged}
 use Rattle.fe_wire.specs.Stream.{Decoding}
 use Rattle.fe_wire.specs.declared.client_message.ClientMessage.{ClientMessage}
-use Rattle.fe_desk.specs.Steps.{find, on_client, Acts, Connects, clients_with, new_client, unmade, gone, with_left, with_decoder, after_frame, TakesPiece, TakesFrom, TakesBytes, HasNoMail, AreWritten}
-use Rattle.fe_desk.specs.within.Desk.{AreQuiet, client_of, run_state_of, AreWrittenOutLater, KeepsFront}
-use Rattle.fe_desk.proofs.Emptying.{quiet_all_emptied, quiet_all_written_out}
+use Rattle.fe_desk.specs.Steps.{find, on_client, Acts, Connects, clients_with, new_client, gone, with_left, with_decoder, after_frame, TakesPiece, TakesFrom, TakesBytes, HasNoMail, AreWritten}
+use Rattle.fe_desk.specs.Room.{unmade}
+use Rattle.fe_desk.specs.within.Desk.{client_of, run_state_of, KeepsFront}
+use Rattle.fe_desk.proofs.Emptying.{quiet_all_emptied, quiet_all_written_out, AreQuiet}
 use Rattle.fe_desk.proofs.Outputs.{stored_clients, posted_clients, unmade_clients}
 use Rattle.fe_desk.proofs.Reading.{takes_all-keeps}
 use Rattle.fe_desk.specs.within.Goes.{Empties}
 use Rattle.fe_desk.specs.Ends.{WritesFirst}
-use Rattle.fe_desk.proofs.StepParts.{all_written, some_written, none_boxed, discharged_at}
+use Rattle.fe_desk.proofs.StepParts.{all_written, none_boxed, discharged_at}
 use Rattle.fe_desk.proofs.Writing.{writes_some}
 
 -- ---- there is nothing to write
@@ -58,15 +59,13 @@ all_quiet p q (Err e) boxes written_out owes = tt
 -- how the boxes were emptied
 pub empties : {D : Type 0} (p q : DeskInner D) (r : Result (Unit {0}) OutOfMemory) → ((conn : ℕ) → is_connected p.front conn ≡ true → is_some (find conn (map client_of p.trace.ports.items)) ≡ true) → KeepsFront p.front q.front
     → OnOk r (map client_of q.trace.ports.items ≡ all_written_out p.front (map client_of p.trace.ports.items)) → OnOk r (q.front ≡ all_emptied p.front (map client_of p.trace.ports.items))
-    → OnErr r (AreWrittenOutLater p.front (map client_of p.trace.ports.items) q.front (map client_of q.trace.ports.items)) → OnErr r (WritesFirst p.front (map client_of p.trace.ports.items) q.front (map client_of q.trace.ports.items))
+    → OnErr r (WritesFirst p.front (map client_of p.trace.ports.items) q.front (map client_of q.trace.ports.items))
     → q.owes ≡ is_err r → q.handed ≡ p.handed → q.making ≡ p.making → q.trace.groups ≡ p.trace.groups → Empties r (run_state_of p) (run_state_of q)
-empties p q (Ok x) known kept written_out emptied later writes owes handed making groups = record {
+empties p q (Ok x) known kept written_out emptied writes owes handed making groups = record {
   after = all_written p q (Ok x) written_out emptied owes handed making groups;
   quiet = all_quiet p q (Ok x) (none_boxed p q (Ok x) known kept emptied) written_out owes;
 }
-empties p q (Err e) known kept written_out emptied later writes owes handed making groups =
-    let some = some_written p q (Err e) later owes handed making groups in
-    record { later = some.0; owes = some.1; writes = writes_some p q (Err e) writes owes handed making groups }
+empties p q (Err e) known kept written_out emptied writes owes handed making groups = writes_some p q (Err e) writes owes handed making groups
 
 -- ---- steps leave the replies that wait
 

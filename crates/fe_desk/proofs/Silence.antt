@@ -4,7 +4,7 @@ use Rattle.std.specs.Prelude.{MatchBool, is_some}
 use Rattle.std.proofs.lemmas.List.{drop-set-lt, map-append}
 use Rattle.fe_front.specs.Front.{FrontState, is_connected}
 use Rattle.fe_wire.specs.Stream.{Decoding}
-use Rattle.fe_desk.specs.DeskRunState.{Client, DeskRunState, all_written_out, emptied_box, output_of, stored, posted}
+use Rattle.fe_desk.specs.DeskRunState.{Client, DeskRunState, all_written_out, emptied_box, stored, posted}
 use Rattle.fe_desk.specs.Crash.{unwritten_to}
 use Rattle.fe_desk.specs.Messages.{outputs}
 use Rattle.fe_desk.specs.Runs.{AreSilent}
@@ -16,7 +16,7 @@ use Rattle.fe_desk.specs.declared.step.Step.TheVariants as step
 use Rattle.fe_desk.specs.within.Desk.{IsMailedFrom, IsSilentFrom, client_of, port_bit}
 use Rattle.fe_desk.proofs.Anew.{AreCleared, all_cleared, bare, one_cleared}
 use Rattle.fe_desk.proofs.Emptying.{from_here, port_there, quiet_written_out, same_set}
-use Rattle.fe_desk.proofs.Outputs.{bytes_output, gone_output, same_outputs, stored_clients, posted_clients}
+use Rattle.fe_desk.proofs.Outputs.{bytes_output, gone_output, same_outputs, stored_clients, posted_clients, output_of}
 use Rattle.fe_desk.proofs.Reading.{each-on_client}
 
 -- what was written to a port

@@ -1,5 +1,5 @@
 -- What emptying the boxes keeps of a desk, and how the parts of a step come together.
-use Rattle.std.proofs.Common.{◌≡◌, ℕ, Bool, true, false, true≢false, List, [], ◌∷◌, refl, sym, ap, subst, ◌∙◌}
+use Rattle.std.proofs.Common.{◌≡◌, ℕ, Bool, true, false, List, [], ◌∷◌, refl, sym, ap, subst, ◌∙◌}
 use Rattle.std.specs.Prelude.{nat_eq, is_some, is_err, map, Some, Result, Ok, Err, OnOk, OnErr, if◌then◌else◌}
 use Rattle.fe_memory.specs.declared.OutOfMemory.{OutOfMemory}
 use Rattle.fe_mail.specs.Connections.{mails_on}
@@ -8,14 +8,16 @@ use Rattle.fe_keeper.specs.Keeper.{KeeperState}
 use Rattle.fe_desk.specs.declared.desk_inner.DeskInner.{DeskInner}
 use Rattle.fe_desk.specs.declared.port.Port.{Port}
 use Rattle.fe_desk.specs.declared.step.Step.{Step}
-use Rattle.fe_desk.specs.DeskRunState.{output_of, Extends, Client, DeskRunState, emptied, discharged, all_written_out, all_emptied}
+use Rattle.fe_desk.specs.DeskRunState.{Extends, Client, DeskRunState, emptied, discharged, all_written_out, all_emptied}
 use Rattle.fe_desk.specs.Steps.{find, Acts, DeskStep}
+use Rattle.fe_desk.specs.Ends.{WritesFirst}
 use Rattle.fe_desk.specs.Messages.{outputs}
-use Rattle.fe_desk.specs.within.Desk.{AreWrittenOutLater, HasStore, KeepsFront, IsDesk, IsAhead, client_of, desk_of, run_state_of}
+use Rattle.fe_desk.specs.within.Desk.{HasStore, KeepsFront, IsDesk, IsAhead, client_of, desk_of, run_state_of}
 use Rattle.fe_desk.specs.within.Goes.{Empties, Settles}
 use Rattle.fe_desk.proofs.Advancing.{desk_as, tied_as}
-use Rattle.fe_desk.proofs.Outputs.{all_written_out-extends}
+use Rattle.fe_desk.proofs.Outputs.{all_written_out-extends, output_of}
 use Rattle.fe_desk.proofs.Emptying.{boxes_empty, no_box}
+use Rattle.fe_desk.proofs.Writing.{extends_later}
 use Rattle.fe_disk.specs.declared.disk.Disk.{Ghosts}
 
 -- ---- clients by their numbers
@@ -59,13 +61,6 @@ owes_discharged s = by s.owes refl
     by true is = refl
     by false is = is
 
--- discharged later comes to the same
-pub emptied_later : (s t : DeskRunState) → AreWrittenOutLater s.front s.clients t.front t.clients → t.handed ≡ s.handed → t.making ≡ s.making → t.groups ≡ s.groups → emptied t ≡ emptied s
-emptied_later s t later handed making groups =
-    let front = later.front in
-    let clients = later.clients in
-    cc
-
 -- ---- the boxes are emptied
 
 abbrev clients_in : {D : Type 0} → DeskInner D → List Client
@@ -87,19 +82,12 @@ module _ {D : Type 0} (p q : DeskInner D) where
   all_written (Ok x) written_out front owes handed making groups = cc
   all_written (Err e) written_out front owes handed making groups = tt
 
-  pub some_written : (r : Result (Unit {0}) OutOfMemory) → OnErr r (AreWrittenOutLater p.front (clients_in p) q.front (clients_in q))
-      → q.owes ≡ is_err r → q.handed ≡ p.handed → q.making ≡ p.making → q.trace.groups ≡ p.trace.groups
-      → OnErr r ((emptied (run_state_of q) ≡ emptied (run_state_of p)) × (q.owes ≡ true))
-  some_written (Ok x) later owes handed making groups = tt
-  some_written (Err e) later owes handed making groups =
-      (emptied_later (run_state_of p) (run_state_of q) later handed making (ap (λ gs. map (λ g. g.items) gs.items) groups), owes)
-
   -- what is written goes on from what was
-  pub written_more : (r : Result (Unit {0}) OutOfMemory) → OnOk r (clients_in q ≡ all_written_out p.front (clients_in p)) → OnErr r (AreWrittenOutLater p.front (clients_in p) q.front (clients_in q))
+  pub written_more : (r : Result (Unit {0}) OutOfMemory) → OnOk r (clients_in q ≡ all_written_out p.front (clients_in p)) → OnErr r (WritesFirst p.front (clients_in p) q.front (clients_in q))
       → Extends (outputs (run_state_of p)) (outputs (run_state_of q))
-  written_more (Ok x) written_out later =
+  written_more (Ok x) written_out writes =
       subst (λ (cs : List Client). Extends (map output_of (clients_in p)) (map output_of cs)) (sym written_out) (all_written_out-extends p.front (clients_in p))
-  written_more (Err e) written_out later = later.output
+  written_more (Err e) written_out writes = extends_later p.front (clients_in p) q.front (clients_in q) writes
 
   -- no box has a mail: those of connections were emptied, and there is no other
   pub none_boxed : (r : Result (Unit {0}) OutOfMemory) → ((conn : ℕ) → is_connected p.front conn ≡ true → is_some (find conn (clients_in p)) ≡ true) → KeepsFront p.front q.front
@@ -112,16 +100,6 @@ module _ {D : Type 0} (p q : DeskInner D) where
       by conn false there = no_box q.front conn there
   none_boxed (Err e) known kept front = tt
 
--- ---- what a call answered
-
-pub when_ok : {T E P : Type 0} (r : Result T E) → is_err r ≡ false → OnOk r P → P
-when_ok (Ok x) none p = p
-when_ok (Err e) none p = absurd (true≢false none)
-
-pub when_err : {T E P : Type 0} (r : Result T E) → is_err r ≡ true → OnErr r P → P
-when_err (Ok x) some p = absurd (true≢false (sym some))
-when_err (Err e) some p = p
-
 -- mails that were owed are written, where all are
 pub settles_all : (r : Result (Unit {0}) OutOfMemory) (s t : DeskRunState) → s.owes ≡ true → Empties r s t → Settles r s t
 settles_all (Ok x) s t owing h = h.after ∙ sym (discharged_owing s owing)
@@ -131,15 +109,6 @@ settles_all (Err e) s t owing h = (owing, h)
 
 pub stepped : (s mid last t : DeskRunState) (step : Step) → mid ≡ discharged s → Acts mid step last → t ≡ emptied last → DeskStep s step t
 stepped s mid last t step is acts after = record { last = last; acts = subst (λ (m : DeskRunState). Acts m step last) is acts; after = after }
-
--- mails that were owed are still owed
-pub stepped_settling : (s u t : DeskRunState) (step : Step) → discharged u ≡ discharged s → DeskStep u step t → DeskStep s step t
-stepped_settling s u t step same d = record { last = d.last; acts = subst (λ (m : DeskRunState). Acts m step d.last) same d.acts; after = d.after }
-
--- what was done of a step stands, and the rest is done from there
-pub stepped_again : (s mid u t : DeskRunState) (step next : Step) → mid ≡ discharged s → u.owes ≡ false → ((last : DeskRunState) → Acts u next last → Acts mid step last) → DeskStep u next t → DeskStep s step t
-stepped_again s mid u t step next is none again d =
-    stepped s mid d.last t step is (again d.last (subst (λ (m : DeskRunState). Acts m next d.last) (discharged_at u none) d.acts)) d.after
 
 -- a step whose mails are owed took effect but for them
 pub stepped_owing : (s mid last u : DeskRunState) (step : Step) → mid ≡ discharged s → Acts mid step last → emptied u ≡ emptied last → u.owes ≡ true → DeskStep s step (discharged u)

@@ -9,17 +9,19 @@ use Rattle.fe_desk.specs.declared.fault.DeskFault.{DeskFault}
 use Rattle.fe_desk.specs.declared.fault.DeskFault.TheVariants.{Store, NoMemory, Unwritten}
 use Rattle.fe_desk.specs.declared.step.Step.{Step}
 use Rattle.fe_desk.specs.Crash.{DeskState}
-use Rattle.fe_desk.specs.Ends.{discharged_desk}
+use Rattle.fe_desk.specs.Ends.{FindsNoMemory, WritesSome, discharged_desk}
 use Rattle.fe_desk.specs.Messages.{outputs}
 use Rattle.fe_desk.specs.DeskRunState.{DeskRunState, discharged}
-use Rattle.fe_desk.specs.Steps.{Acts, DeskStep}
-use Rattle.fe_desk.specs.Runs.{Ends, IsSound, IsStep}
+use Rattle.fe_desk.specs.Steps.{Acts}
+use Rattle.fe_desk.specs.Runs.{Ends, EndsByMemory, IsSound, IsStep}
 use Rattle.fe_desk.specs.within.Desk.{IsDesk, HasStore}
-use Rattle.fe_desk.specs.within.Goes.{ActEnds, GoesAct, HasEmptied, StillHolds}
+use Rattle.fe_desk.specs.within.Goes.{ActEnds, GoesAct, HasEmptied}
 use Rattle.fe_desk.proofs.Advancing.{fine_as, fine_both}
-use Rattle.fe_desk.proofs.Feeding.{settling_reads, fed_discharged}
+use Rattle.fe_desk.proofs.Feeding.{finds_tells, lacks_silent, tears_silent}
+use Rattle.fe_desk.proofs.GivenAgain.{left_for_again}
 use Rattle.fe_desk.proofs.Growing.{checks_as}
-use Rattle.fe_desk.proofs.StepParts.{stepped, stepped_settling, stepped_again, stepped_owing, owes_discharged, discharged_at, discharged_owing}
+use Rattle.fe_desk.proofs.StepParts.{stepped, stepped_owing, discharged_at}
+use Rattle.fe_desk.proofs.Writing.{owed_later}
 use Rattle.fe_keeper.specs.Ends.{Works}
 
 -- of a fault nothing is said that is said of what is done
@@ -53,36 +55,31 @@ module _ {D : Type 0} (k : Ghosts D) (x : Step) (a : DeskState D) where
   sound : {b : DeskState D} → IsDesk k b → Works k a.keeper b.keeper → IsSound k a b
   sound desk fine = record { fine = fine; stored = desk.all fine.after }
 
+  by_memory : {b : DeskState D} (fed : Bool) → FindsNoMemory fed x a b → (a.run_state.owes ≡ false → outputs b.run_state ≡ outputs a.run_state) → IsSound k a b → EndsByMemory k fed a x b
+  by_memory {b} fed finds silent sound = record {
+    finds = finds;
+    read = finds_tells fed x a b finds;
+    again = λ next t again h. left_for_again fed x next a b t finds again h;
+    silent = silent;
+    sound = sound;
+  }
+
   -- memory was short for mails that were owed
-  pub step_settling : {b : DeskState D} → a.keeper.store.has_failed ≡ false → IsDesk k b → HasStore a b → (a.run_state.owes ≡ true) × StillHolds a.run_state b.run_state
+  pub step_settling : {b : DeskState D} → a.keeper.store.has_failed ≡ false → IsDesk k b → HasStore a b → (a.run_state.owes ≡ true) × WritesSome a.run_state b.run_state
       → IsStep k a x (Err (NoMemory out_of_memory false)) b
   step_settling {b} works desk same still =
-      let later : discharged b.run_state ≡ discharged a.run_state = discharged_owing b.run_state still.1.owes ∙ still.1.later ∙ sym (discharged_owing a.run_state still.0) in
-      step_at (Err (NoMemory out_of_memory false)) b works (record {
-        finds = inl (refl, record { owed = still.0; writes = still.1.writes; keeper = same.keeper; synced = same.synced });
-        read = settling_reads a.run_state b.run_state later;
-        again = λ next t again h. stepped_settling a.run_state b.run_state t x later (subst (λ (y : Step). DeskStep b.run_state y t) again h);
-        silent = λ none. absurd (true≢false (sym still.0 ∙ none));
-        sound = sound desk (fine_as k a b works same);
-      })
+      step_at (Err (NoMemory out_of_memory false)) b works
+      (by_memory false (inl (refl, record { owed = still.0; writes = still.1; keeper = same.keeper; synced = same.synced })) (λ none. absurd (true≢false (sym still.0 ∙ none))) (sound desk (fine_as k a b works same)))
 
   -- what it does after them is at fault
   pub step_fault : {mid b : DeskState D} {fault : DeskFault} (r : Result (Unit {0}) DeskFault) → IsErrAnd r (λ f. f ≡ fault) → a.keeper.store.has_failed ≡ false → mid ≡ discharged_desk a
       → GoesAct k mid x (Err fault) b → IsStep k a x r b
   step_fault {mid} {b} {fault} r refused_so works is goes = by r refused_so
     where
-      none : b.run_state.owes ≡ false
-      none = goes.owes ∙ ap (λ (d : DeskState D). d.run_state.owes) is ∙ owes_discharged a.run_state
-
       of : (f : DeskFault) → ActEnds k (discharged_desk a) x b (Err f) → Ends k a x (Err f) b
-      of (Store cause) h = (h.0, record { breaks = h.1.breaks; silent = h.1.silent; failed = record { before = h.1.failed.before; failed = h.1.failed.failed; rises = h.1.failed.rises } })
-      of (NoMemory error fed) h = record {
-        finds = inr h.lacks;
-        read = fed_discharged fed a.run_state (discharged a.run_state) x b.run_state refl h.read;
-        again = λ next t again d. stepped_again a.run_state (discharged a.run_state) b.run_state t x next refl none (λ last. h.again next last again) d;
-        silent = λ clear. h.silent ∙ ap outputs (discharged_at a.run_state clear);
-        sound = sound goes.desk (record { before = h.fine.before; after = h.fine.after; still = h.fine.still });
-      }
+      of (Store cause) h = (h.0, record { breaks = h.1; silent = tears_silent x (discharged_desk a) b h.1; failed = record { before = h.2.before; failed = h.2.failed; rises = h.2.rises } })
+      of (NoMemory error fed) h =
+          by_memory fed (inr h.0) (λ clear. lacks_silent fed x (discharged_desk a) b h.0 ∙ ap outputs (discharged_at a.run_state clear)) (sound goes.desk (record { before = h.1.before; after = h.1.after; still = h.1.still }))
       of (Unwritten error) h = absurd h
 
       by : (r : Result (Unit {0}) DeskFault) → IsErrAnd r (λ f. f ≡ fault) → IsStep k a x r b
@@ -94,8 +91,8 @@ module _ {D : Type 0} (k : Ghosts D) (x : Step) (a : DeskState D) where
   act_silent {b} {fault} goes = by fault goes.ends
     where
       by : (f : DeskFault) → ActEnds k a x b (Err f) → outputs b.run_state ≡ outputs a.run_state
-      by (Store cause) h = h.1.silent
-      by (NoMemory error fed) h = h.silent
+      by (Store cause) h = tears_silent x a b h.1
+      by (NoMemory error fed) h = lacks_silent fed x a b h.0
       by (Unwritten error) h = absurd h
 
   fine_to : {mid last b : DeskState D} → a.keeper.store.has_failed ≡ false → HasStore a mid → Works k mid.keeper last.keeper → HasStore last b → Works k a.keeper b.keeper
@@ -103,13 +100,13 @@ module _ {D : Type 0} (k : Ghosts D) (x : Step) (a : DeskState D) where
 
   -- memory was short for its mails
   pub step_owing : {mid last b : DeskState D} {y : Unit {0}} → a.keeper.store.has_failed ≡ false → mid.run_state ≡ discharged a.run_state → HasStore a mid → GoesAct k mid x (Ok y) last
-      → HasStore last b → StillHolds last.run_state b.run_state → IsDesk k b → IsStep k a x (Err (Unwritten out_of_memory)) b
+      → HasStore last b → WritesSome last.run_state b.run_state → IsDesk k b → IsStep k a x (Err (Unwritten out_of_memory)) b
   step_owing {mid} {last} {b} works is before goes behind still desk =
       step_at (Err (Unwritten out_of_memory)) b works (record {
         last = last.run_state;
         acts = subst (λ (s : DeskRunState). Acts s x last.run_state) is goes.ends.acts;
-        writes = still.writes;
-        took = stepped_owing a.run_state mid.run_state last.run_state b.run_state x is goes.ends.acts still.later still.owes;
+        writes = still;
+        took = stepped_owing a.run_state mid.run_state last.run_state b.run_state x is goes.ends.acts (owed_later last.run_state b.run_state still) (ap (λ (r : DeskRunState). r.owes) still.after);
         checked = checks_as x a mid last b before behind goes.ends.checked;
         sound = sound desk (fine_to works before goes.ends.fine behind);
       })

@@ -1,30 +1,26 @@
 -- How far a connection's messages were taken where a batch found no memory, or the device failed it.
 use Rattle.std.proofs.Common.{◌≡◌, inl, inr, ℕ, ◌<◌, Bool, true, false, Option, List, [], ◌∷◌, ◌++◌, length, Some, refl, sym, ap, subst, ◌∙◌, arith}
-use Rattle.std.specs.Prelude.{nat_eq, nat_le, if◌then◌else◌, Result, Ok, Err}
-use Rattle.std.proofs.lemmas.Bool.Decides.{nat_tests}
+use Rattle.std.specs.Prelude.{is_some, nat_le, if◌then◌else◌, Result, Ok, Err}
 use Rattle.fe_state.specs.declared.entry.Entry.{Entry}
 use Rattle.fe_front.specs.Front.{has_room}
 use Rattle.fe_wire.specs.declared.client_message.ClientMessage.{ClientMessage}
 use Rattle.fe_desk.specs.declared.handed.Handed.{Handed}
 use Rattle.fe_desk.specs.declared.handed.Handed.TheVariants.{Nothing, Cut, Stored}
-use Rattle.fe_desk.specs.DeskRunState.{Client, DeskRunState, cut, cleared, committed, made, begun_room, roomy, is_making}
-use Rattle.fe_desk.specs.Steps.{on_client, with_left}
+use Rattle.fe_desk.specs.DeskRunState.{Client, DeskRunState, cut, cleared}
+use Rattle.fe_desk.specs.Room.{MayBegin, StopsMaking, begun_room, is_making, made, room_begun, roomy}
+use Rattle.fe_desk.specs.Steps.{find, on_client, with_left}
 use Rattle.fe_desk.specs.Messages.{left_of}
-use Rattle.fe_desk.specs.Ends.{HasCut, MayBegin, StopsMaking, StopsBefore, room_begun, Tears}
+use Rattle.fe_desk.specs.Ends.{HasCut, StopsBefore, Tears, TakesFirst}
 use Rattle.fe_desk.specs.Crash.{DeskState}
-use Rattle.fe_desk.specs.within.Desk.{IsHanded}
 use Rattle.fe_desk.specs.within.Goes.{GoesTo}
 use Rattle.fe_disk.specs.declared.disk.Disk.{Ghosts}
 use Rattle.fe_keeper.specs.declared.fault.Fault.{Fault}
 use Rattle.fe_keeper.specs.declared.fault.Fault.TheVariants.{Device, Failed, NoMemory, Mismatch, Damaged, Unformatted}
-use Rattle.fe_desk.proofs.Making.{begun_by, cleared_pending, roomy_later}
-use Rattle.fe_desk.proofs.Reading.{on_client-twice, on_client-stays, relieved, left_among, with_clients, cleared-clients, begun_room-clients, roomy-keeps}
-use Rattle.fe_desk.proofs.Leftovers.{IsTaken}
+use Rattle.fe_desk.proofs.Making.{cleared_pending}
+use Rattle.fe_desk.proofs.Reading.{on_client-twice, on_client-stays, relieved, left_among, with_clients, cleared-clients, begun_room-clients, roomy-keeps, takes_all-keeps}
+use Rattle.fe_desk.proofs.Leftovers.{IsTaken, left-relieved}
 
 -- ---- room
-
-same_number : (n : ℕ) → nat_eq n n ≡ true
-same_number n = grind (arith, nat_tests)
 
 -- which connection room is made for tells nothing once it is made
 pub made_alike : (s : DeskRunState) (m : Option ℕ) → made (cleared (record s { making = m })) ≡ made (cleared s)
@@ -35,18 +31,8 @@ made_alike s m = by s.handed
     by (Cut batch) = refl
     by (Stored batch) = refl
 
--- room that is begun is made by what is left of it
-begun_made : (s : DeskRunState) (conn : ℕ) → begun_room (room_begun s conn) conn ≡ made (committed (cleared s))
-begun_made s conn = begun_by (room_begun s conn) conn true (same_number conn) ∙ made_alike (cut (cleared s)) (Some conn)
-
--- where the making of room stops, it comes to the same later
-pub stops_later : (s mid t : DeskRunState) (conn : ℕ) → mid ≡ begun_room s conn → IsHanded mid.handed mid.front.out → has_room mid.front ≡ false → MayBegin mid conn t → roomy t conn ≡ roomy s conn
-stops_later s mid t conn begun handed none (inl is) = roomy_later s mid t conn begun handed none (inl is)
-stops_later s mid t conn begun handed none (inr is) =
-    roomy_later s mid t conn begun handed none (inr (ap (λ (u : DeskRunState). begun_room u conn) is ∙ begun_made mid conn))
-
 -- what is pending is not touched by room that was begun
-begun_pending : (s : DeskRunState) (conn : ℕ) → (begun_room s conn).front.service.pending ≡ s.front.service.pending
+pub begun_pending : (s : DeskRunState) (conn : ℕ) → (begun_room s conn).front.service.pending ≡ s.front.service.pending
 begun_pending s conn = by (is_making s conn)
   where
     by : (b : Bool) → (if b then made (cleared s) else s).front.service.pending ≡ s.front.service.pending
@@ -59,25 +45,6 @@ stops_room s mid t conn begun none may =
     let pending : mid.front.service.pending ≡ s.front.service.pending = ap (λ (u : DeskRunState). u.front.service.pending) begun ∙ begun_pending s conn in
     let full : has_room s.front ≡ false = ap (λ (es : List Entry). nat_le (length es) 2048) (sym pending) ∙ none in
     inr (full, subst (λ (u : DeskRunState). MayBegin u conn t) begun may)
-
-begun_handed : (s : DeskRunState) (conn : ℕ) → IsHanded s.handed s.front.out → IsHanded (begun_room s conn).handed (begun_room s conn).front.out
-begun_handed s conn handed = by (is_making s conn)
-  where
-    gone : (h : Handed) → IsHanded h s.front.out → IsHanded (cleared (record s { handed = h })).handed (cleared (record s { handed = h })).front.out
-    gone Nothing out = out
-    gone (Cut batch) out = refl
-    gone (Stored batch) out = refl
-
-    by : (b : Bool) → IsHanded (if b then made (cleared s) else s).handed (if b then made (cleared s) else s).front.out
-    by true = gone s.handed handed
-    by false = handed
-
--- where the making of room stopped, it comes to the same later
-pub roomy_stops : (s t : DeskRunState) (conn : ℕ) → IsHanded s.handed s.front.out → StopsMaking s conn t → roomy t conn ≡ roomy s conn
-roomy_stops s t conn handed (inl still) = ap (λ (u : DeskRunState). roomy u conn) still.1
-roomy_stops s t conn handed (inr begins) =
-    let none : has_room (begun_room s conn).front ≡ false = ap (λ (es : List Entry). nat_le (length es) 2048) (begun_pending s conn) ∙ begins.0 in
-    stops_later s (begun_room s conn) t conn refl (begun_handed s conn handed) none begins.1
 
 -- ---- room is made whatever stands among the clients
 
@@ -93,7 +60,7 @@ stops-clients s t conn cs (inl still) = inl (still.0, ap (λ (u : DeskRunState).
 stops-clients s t conn cs (inr begins) =
     inr (begins.0, subst (λ (u : DeskRunState). MayBegin u conn (with_clients t cs)) (sym (begun_room-clients s conn cs)) (begins-clients (begun_room s conn) t conn cs begins.1))
 
-stops-keep : (s t : DeskRunState) (conn : ℕ) → StopsMaking s conn t → t.clients ≡ s.clients
+pub stops-keep : (s t : DeskRunState) (conn : ℕ) → StopsMaking s conn t → t.clients ≡ s.clients
 stops-keep s t conn (inl still) = ap (λ (u : DeskRunState). u.clients) still.1
 stops-keep s t conn (inr begins) = by begins.1 ∙ ap (λ (u : DeskRunState). u.clients) (begun_room-clients s conn s.clients)
   where
@@ -113,6 +80,17 @@ room_keeps {D} {k} {a} {b} conn (Err Unformatted) h = absurd h.ends
 
 -- ---- messages
 
+-- the first messages are taken, and the others are left of the client, of which nothing else changed
+module _ {conn : ℕ} {s t : DeskRunState} {ms : List ClientMessage} (first : TakesFirst s conn ms t) where
+  pub first_kept : first.last.clients ≡ s.clients
+  first_kept = stops-keep first.before first.last conn first.stops ∙ takes_all-keeps s conn first.taken first.before first.takes
+
+  pub first_clients : t.clients ≡ on_client conn (relieved (first.next ∷ first.behind)) s.clients
+  first_clients = ap (λ (u : DeskRunState). u.clients) first.after ∙ ap (on_client conn (relieved (first.next ∷ first.behind))) first_kept
+
+  pub first_left : is_some (find conn s.clients) ≡ true → left_of t conn ≡ first.next ∷ first.behind
+  first_left here = ap (λ (cs : List Client). left_among (find conn cs)) first_clients ∙ left-relieved conn (first.next ∷ first.behind) s.clients here
+
 -- messages were taken as far as to there, and room for the next is not made
 pub first_stops : (conn : ℕ) (s a t : DeskRunState) → 0 < length (left_of a conn) → t.clients ≡ a.clients → StopsMaking a conn t → HasCut t → IsTaken conn s a → StopsBefore s conn t
 first_stops conn s a t some clients stops at_hand taken = by (left_of a conn) some refl
@@ -129,12 +107,12 @@ first_stops conn s a t some clients stops at_hand taken = by (left_of a conn) so
     by : (ms : List ClientMessage) → 0 < length ms → left_of a conn ≡ ms → StopsBefore s conn t
     by [] none is = absurd (omega arith)
     by (m ∷ ms) here is = record {
-      taken = taken.rest.0;
+      taken = taken.first;
       next = m;
       behind = ms;
       before = with_left a conn [];
       last = with_clients t emptied;
-      all = taken.rest.1 ∙ ap (λ (left : List ClientMessage). taken.rest.0 ++ left) is;
+      all = taken.rest ∙ ap (λ (left : List ClientMessage). taken.first ++ left) is;
       takes = taken.took;
       stops = stops-clients a t conn emptied stops;
       at_hand = record { batch = at_hand.batch; handed = at_hand.handed };

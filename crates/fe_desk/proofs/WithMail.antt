@@ -17,8 +17,8 @@ use Rattle.fe_desk.specs.declared.step.Step.TheVariants as step
 use Rattle.fe_desk.specs.DeskRunState.{Client, emptied_box}
 use Rattle.fe_desk.specs.Steps.{AreWritten}
 use Rattle.fe_desk.specs.declared.port_set.PortSet.{PortSet}
-use Rattle.fe_desk.specs.within.Desk.{HasAllWithMail, IsFirstAt, IsMailedFrom, KeepsEmpty, client_number_at, port_bit}
-use Rattle.fe_desk.proofs.Emptying.{box_emptied, emptied_box-empty}
+use Rattle.fe_desk.specs.within.Desk.{HasAllWithMail, IsFirstAt, IsMailedFrom, KeepsFront, client_number_at, port_bit}
+use Rattle.fe_desk.proofs.Emptying.{box_emptied, emptied_box-keeps}
 use Rattle.fe_desk.proofs.Places.{behind}
 use Rattle.std.proofs.lemmas.Option.{same_Some}
 
@@ -27,7 +27,7 @@ pub changed_since : (f g : FrontState) (set : ConnectionSet) → ((conn : ℕ) �
 changed_since f g set empty changed conn = ⊎_elim (λ is. inl is) (λ same. inr (same.mails ∙ empty conn)) (changed conn)
 
 -- where more boxes are empty
-pub still_all : (f g : FrontState) (set : ConnectionSet) → KeepsEmpty f g → HasAllWithMail f set → HasAllWithMail g set
+pub still_all : (f g : FrontState) (set : ConnectionSet) → KeepsFront f g → HasAllWithMail f set → HasAllWithMail g set
 still_all f g set keeps all conn = ⊎_elim (λ is. inl is) (λ none. inr (keeps.empty conn none)) (all conn)
 
 -- another step than a post
@@ -59,7 +59,7 @@ none_mailed : (at : ℕ) (f : FrontState) (cs : List Client) (set : PortSet) →
 none_mailed at f [] set replies boxes = tt
 none_mailed at f (c ∷ cs) set replies boxes = (
   inr (record { reply = replies.0; box = boxes c.conn }),
-  none_mailed (suc at) (emptied_box f c.conn) cs set replies.1 (λ q. (emptied_box-empty f c.conn).empty q (boxes q)),
+  none_mailed (suc at) (emptied_box f c.conn) cs set replies.1 (λ q. (emptied_box-keeps f c.conn).empty q (boxes q)),
 )
 
 -- nor to another than the connection's client
@@ -71,12 +71,12 @@ lone_mailed k f (c ∷ cs) set conn zero replies boxes p bit =
     let g : FrontState = emptied_box f c.conn in
     let empty : (q : ℕ) → mails_on g.connections q ≡ [] = λ q. elim (same_or_other q conn) [
       | inl e ↦ ap (λ (n : ℕ). mails_on g.connections n) (e ∙ sym same) ∙ box_emptied f c.conn
-      | inr ne ↦ (emptied_box-empty f c.conn).empty q (boxes q ne)
+      | inr ne ↦ (emptied_box-keeps f c.conn).empty q (boxes q ne)
     ] in
     (inl (subst (λ (n : ℕ). port_bit set n ≡ 1) (omega arith) bit), none_mailed (suc k) g cs set replies.1 empty)
 lone_mailed k f (c ∷ cs) set conn (suc at) replies boxes p bit = (
   inr (record { reply = replies.0; box = boxes c.conn (λ e. p.first 0 (omega arith) (ap (λ (n : ℕ). Some n) e)) }),
-  lone_mailed (suc k) (emptied_box f c.conn) cs set conn at replies.1 (λ q ne. (emptied_box-empty f c.conn).empty q (boxes q ne)) (behind c cs conn at p)
+  lone_mailed (suc k) (emptied_box f c.conn) cs set conn at replies.1 (λ q ne. (emptied_box-keeps f c.conn).empty q (boxes q ne)) (behind c cs conn at p)
       (subst (λ (n : ℕ). port_bit set n ≡ 1) (omega arith) bit),
 )
 
@@ -91,6 +91,6 @@ pub some_mailed : (k : ℕ) (f : FrontState) (cs : List Client) (set : PortSet) 
 some_mailed k f [] set mailed replies all added = tt
 some_mailed k f (c ∷ cs) set mailed replies all added = (
   ⊎_elim (λ is. inl (subst (λ (n : ℕ). port_bit set n ≡ 1) (omega arith) (added 0 c.conn refl is))) (λ none. inr (record { reply = replies.0; box = none })) (all c.conn),
-  some_mailed (suc k) (emptied_box f c.conn) cs set mailed replies.1 (still_all f (emptied_box f c.conn) mailed (emptied_box-empty f c.conn) all)
+  some_mailed (suc k) (emptied_box f c.conn) cs set mailed replies.1 (still_all f (emptied_box f c.conn) mailed (emptied_box-keeps f c.conn) all)
       (λ at conn is has. subst (λ (n : ℕ). port_bit set n ≡ 1) (omega arith) (added (suc at) conn is has)),
 )

@@ -5,15 +5,9 @@ use Rattle.fe_disk.specs.Runs.{LeavesOnly}
 use Rattle.fe_state.specs.State.{ServerState}
 use Rattle.fe_state.specs.History.{IsHistory, after_groups}
 use Rattle.fe_state.specs.declared.entry.Entry.{Entry}
-use Rattle.fe_keeper.specs.Ends.{Works, Breaks}
 use Rattle.fe_keeper.specs.Keeper.{KeeperState}
 use Rattle.fe_keeper.specs.Stands.{LeavesPrefix}
-use Rattle.fe_keeper.specs.declared.fault.Fault.{Fault}
-use Rattle.fe_keeper.specs.declared.fault.Fault.TheVariants as keeper
-use Rattle.fe_desk.specs.declared.fault.DeskFault.{DeskFault}
-use Rattle.fe_desk.specs.declared.fault.DeskFault.TheVariants as desk
-use Rattle.fe_desk.specs.declared.handed.Handed.{Handed}
-use Rattle.fe_desk.specs.DeskRunState.{DeskRunState, Client, handing}
+use Rattle.fe_desk.specs.DeskRunState.{DeskRunState, Client}
 use Rattle.fe_disk.specs.declared.disk.Disk.{Ghosts}
 
 -- a desk as its callers see it: where its run stands, its keeper, and how many of the groups are known to be
@@ -25,10 +19,6 @@ pub record DeskState (D : Type 0) : Type 0 where
 
 abbrev pub disk_of : {D : Type 0} → DeskState D → D
 disk_of d = d.keeper.store.disk
-
--- a desk with this batch on its way to the store
-abbrev pub with_handed : {D : Type 0} → DeskState D → Handed → DeskState D
-with_handed d handed = record d { run_state = handing d.run_state handed }
 
 -- The groups are a history from the state that was opened, and those that are stored lead to the replica.
 pub record IsFrom {D : Type 0} (begun : ServerState) (d : DeskState D) : Type 0 where
@@ -47,23 +37,6 @@ pub record Advances {D : Type 0} (model : Ghosts D) (old new : DeskState D) : Ty
       → IsFrom begun old
       → LeavesOnly model (disk_of old) (disk_of new) (LeavesPrefix begun new.run_state.groups old.synced)
   pub honesty : model.honest (disk_of new) ↔ model.honest (disk_of old)
-
--- ---- what calls answer of the store
-
--- what the keeper's fault says, if the keeper had not failed before
-abbrev pub TellsCall : {D : Type 0} → Ghosts D → DeskState D → DeskState D → Fault → Type 0
-TellsCall model old new keeper.Device = Breaks model old.keeper new.keeper
-TellsCall model old new keeper.Failed = ⊥
-TellsCall model old new (keeper.NoMemory error) = Works model old.keeper new.keeper
-TellsCall model old new (keeper.Mismatch place) = ⊥
-TellsCall model old new (keeper.Damaged offset) = ⊥
-TellsCall model old new keeper.Unformatted = ⊥
-
--- what a step's fault says, if the keeper had not failed before
-abbrev pub TellsStep : {D : Type 0} → Ghosts D → DeskState D → DeskState D → DeskFault → Type 0
-TellsStep model old new (desk.Store cause) = (cause ≡ keeper.Device) × Breaks model old.keeper new.keeper
-TellsStep model old new (desk.NoMemory error fed) = Works model old.keeper new.keeper
-TellsStep model old new (desk.Unwritten error) = Works model old.keeper new.keeper
 
 -- ---- a desk whose trace begins anew
 

@@ -2,9 +2,9 @@
 -- number, the batch on its way to the store, and the groups that were handed to it (`docs/model.md`, "The
 -- desk").
 use Rattle.std.specs.Prelude.{ℕ, zero, suc, length, ◌≡◌, Bool, false, List, [], ◌∷◌, ◌++◌, Option, None}
-use Rattle.std.specs.Prelude.{if◌then◌else◌, nat_eq}
+use Rattle.std.specs.Prelude.{if◌then◌else◌}
 use Rattle.fe_mail.specs.Connections.{mails_on}
-use Rattle.fe_front.specs.Front.{FrontState, IsFirst, has_room}
+use Rattle.fe_front.specs.Front.{FrontState, IsFirst}
 use Rattle.fe_front.specs.Steps.{taken}
 use Rattle.std.specs.Option.{option_map_or}
 use Rattle.fe_state.specs.State.{ServerState}
@@ -16,7 +16,6 @@ use Rattle.fe_wire.specs.declared.server_message.ServerMessage.{ServerMessage}
 use Rattle.fe_desk.specs.declared.handed.Handed.{Handed}
 use Rattle.fe_desk.specs.declared.handed.Handed.TheVariants.{Nothing, Cut, Stored}
 use Rattle.fe_messages.specs.Mails.{spelled}
-use Rattle.fe_state.specs.declared.batch.Batch.{Batch}
 use Rattle.fe_front.specs.Steps as front
 use Rattle.fe_front.specs.Posting as posting
 
@@ -95,10 +94,6 @@ discharged s = if s.owes then emptied s else s
 
 -- ---- how what is written grows
 
--- a client's connection number, and what was written to it
-abbrev pub output_of : Client → ℕ × List ℕ
-output_of c = (c.conn, c.written)
-
 -- What was written to each connection number comes first in what is written to it now, and numbers that came
 -- since come after.
 abbrev pub Extends : List (ℕ × List ℕ) → List (ℕ × List ℕ) → Type 0
@@ -108,17 +103,12 @@ Extends (x ∷ xs) (y ∷ ys) = (y.0 ≡ x.0) × ((more : List ℕ) × (y.1 ≡ 
 
 -- ---- the way of a batch: it is cut, stored as a group, and posted
 
--- the batch on its way after a cut: the one that was cut, if there is one, or the one before
-abbrev pub handed_after : Handed → Option Batch → Handed
-handed_after before batch = option_map_or Cut batch before
-
 -- what is pending is cut into a batch, if there is something and no batch is out
 abbrev pub cut : DeskRunState → DeskRunState
-cut s = record s { front = front.cut s.front; handed = handed_after s.handed (front.next_batch s.front) }
-
--- the run, with this batch on its way to the store
-abbrev pub handing : DeskRunState → Handed → DeskRunState
-handing s handed = record s { handed = handed }
+cut s = record s {
+  front = front.cut s.front;
+  handed = option_map_or Cut (front.next_batch s.front) s.handed;
+}
 
 -- the batch that is cut and not yet stored becomes a group of the store
 abbrev pub stored_from : Handed → DeskRunState → DeskRunState
@@ -142,28 +132,3 @@ posted s = posted_from s.handed s
 -- the batch that is out is stored, if it is not yet, and posted
 abbrev pub cleared : DeskRunState → DeskRunState
 cleared s = posted (stored s)
-
--- what is pending is cut, stored and posted
-abbrev pub committed : DeskRunState → DeskRunState
-committed s = cleared (cut s)
-
--- whether room is being made for a message of this connection
-abbrev pub is_making : DeskRunState → ℕ → Bool
-is_making s conn = option_map_or (nat_eq conn) s.making false
-
--- room is not being made any more
-abbrev pub made : DeskRunState → DeskRunState
-made s = record s { making = None }
-
--- Room is made for a message: if too much is pending, what is out is stored and posted, and then what is
--- pending.
-abbrev pub with_room : DeskRunState → DeskRunState
-with_room s = if has_room s.front then s else made (committed (cleared s))
-
--- if making room was begun for a message of this connection before, that is finished
-abbrev pub begun_room : DeskRunState → ℕ → DeskRunState
-begun_room s conn = if is_making s conn then made (cleared s) else s
-
--- Room is made for a message of this connection. If it was begun before, that is finished first.
-abbrev pub roomy : DeskRunState → ℕ → DeskRunState
-roomy s conn = with_room (begun_room s conn)

@@ -6,10 +6,11 @@ use Rattle.std.specs.Option.{option_map_or}
 use Rattle.fe_mail.specs.Connections.{mails_on}
 use Rattle.fe_mail.specs.declared.mail.Mail.{Mail}
 use Rattle.fe_wire.specs.Spelling.{reply_spelling}
-use Rattle.fe_front.specs.Front.{FrontState, is_connected, has_room}
+use Rattle.fe_front.specs.Front.{FrontState, is_connected}
 use Rattle.fe_messages.specs.Mails.{reply_of, spelled}
 use Rattle.fe_desk.specs.DeskRunState.{taken_times, Client, DeskRunState, all_written_out, all_emptied}
-use Rattle.fe_desk.specs.DeskRunState.{discharged, cut, cleared, begun_room, is_making}
+use Rattle.fe_desk.specs.DeskRunState.{discharged}
+use Rattle.fe_desk.specs.Room.{StopsMaking}
 use Rattle.fe_codec.specs.Image.{image_spelling}
 use Rattle.fe_format.specs.declared.format.Format.TheVariants.{Two}
 use Rattle.fe_state.specs.State.{after_all}
@@ -111,20 +112,6 @@ Checks step.Post old new = new.keeper ≡ old.keeper
 pub record HasCut (s : DeskRunState) : Type 0 where
   pub batch : Batch
   pub handed : s.handed ≡ handed.Cut batch
-
--- making room for a message of a connection is begun: what is out is stored and posted, and what is pending
--- is cut; or not
-abbrev pub room_begun : DeskRunState → ℕ → DeskRunState
-room_begun s conn = record (cut (cleared s)) { making = Some conn }
-
-abbrev pub MayBegin : DeskRunState → ℕ → DeskRunState → Type 0
-MayBegin s conn t = (t ≡ s) ⊎ (t ≡ room_begun s conn)
-
--- Room for a message of a connection is not made yet. Either it was begun for this connection before, and
--- nothing more is done; or there is no room, what was begun is made, and room is begun or not.
-abbrev pub StopsMaking : DeskRunState → ℕ → DeskRunState → Type 0
-StopsMaking s conn t =
-    ((is_making s conn ≡ true) × (t ≡ s)) ⊎ ((has_room s.front ≡ false) × MayBegin (begun_room s conn) conn t)
 
 -- The first of a connection's messages are taken. The next has no room, since the batch at hand is not
 -- stored: it did nothing, and it and those after it are left.

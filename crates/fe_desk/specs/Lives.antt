@@ -1,7 +1,6 @@
 -- A store over any number of stops: what each life, from one opening to the next, did, and what stands after
--- all of them. And steps that are given again until they are taken. See `docs/headline.md`, and of the steps
--- `docs/model.md`, "The desk".
-use Rattle.std.specs.Prelude.{◌≡◌, ℕ, ◌≤◌, List, [], ◌∷◌, ◌++◌, length, take, ◌⊎◌, Bool, false, map, Contains}
+-- all of them. See `docs/headline.md`.
+use Rattle.std.specs.Prelude.{◌≡◌, ℕ, ◌≤◌, List, [], ◌∷◌, ◌++◌, length, take, Bool, map, Contains}
 use Rattle.std.specs.Prelude.{Option, None, Some}
 use Rattle.fe_state.specs.State.{ServerState, IsWithinLimits}
 use Rattle.fe_state.specs.History.{IsHistory, after_groups}
@@ -11,11 +10,8 @@ use Rattle.fe_state.specs.declared.answer.Answer.{Answer}
 use Rattle.fe_state.specs.declared.entry.Entry.TheVariants.{Closed, Finished}
 use Rattle.fe_state.specs.declared.request.Request.{Request}
 use Rattle.fe_keeper.specs.Stands.{StandsFor, LeavesPrefix}
-use Rattle.fe_desk.specs.declared.step.Step.{Step}
 use Rattle.fe_desk.specs.Acknowledged.{AnswersStand, IsAcknowledged, stored_groups}
 use Rattle.fe_desk.specs.Crash.{DeskState, IsFrom}
-use Rattle.fe_desk.specs.DeskRunState.{DeskRunState, discharged}
-use Rattle.fe_desk.specs.Steps.{DeskStep, DeskRun, IsAgain}
 
 -- One life of a store: the groups handed to it, how many of them were stored for sure, and how many the stop
 -- kept.
@@ -67,13 +63,6 @@ pub record Stop (D : Type 0) : Type 0 where
 abbrev pub all_groups : {D : Type 0} → Stop D → List (List Entry)
 all_groups x = x.last.run_state.groups ++ x.under_way
 
--- what a life handed to the store, and how many of these groups were stored for sure
-abbrev pub handed_by : Life → List (List Entry) × ℕ
-handed_by life = (life.groups, life.synced)
-
-abbrev pub stored_by : {D : Type 0} → Stop D → List (List Entry) × ℕ
-stored_by x = (all_groups x, x.synced)
-
 -- The life is one of a desk over the state that was opened. Its groups, with those of the step under way, are
 -- a history.
 pub record IsStopOf {D : Type 0} (begun : ServerState) (x : Stop D) : Type 0 where
@@ -124,7 +113,8 @@ FinishOnceIn groups =
 pub record AreOneStore {D : Type 0} (begun : ServerState) (stops : List (Stop D))
     (s : ServerState) : Type 0 where
   pub lives : List Life
-  pub same : map handed_by lives ≡ map stored_by stops
+  pub groups : map (λ life. life.groups) lives ≡ map all_groups stops
+  pub synced : map (λ life. life.synced) lives ≡ map (λ x. x.synced) stops
   pub are : AreLives begun lives s
   pub one : (next : List (List Entry)) → IsHistory s next → AreOne begun lives s next
   pub once : (next : List (List Entry)) → IsHistory s next → FinishOnceIn (kept_groups lives ++ next)
@@ -136,27 +126,3 @@ pub record AreOneStore {D : Type 0} (begun : ServerState) (stops : List (Stop D)
 abbrev pub StopsAreLives : Type 0 → Type 0
 StopsAreLives D = (begun s : ServerState) (stops : List (Stop D)) → IsWithinLimits begun
     → AreStops begun stops s → AreOneStore begun stops s
-
--- ---- steps that are given again
-
--- Whatever the step comes to from `t`, where it is given again, it comes to from `s` as one step.
-abbrev pub LeavesForAgain : DeskRunState → Step → Bool → DeskRunState → Type 0
-LeavesForAgain s step fed t =
-    (next : Step) (u : DeskRunState) → IsAgain fed step next → DeskStep t next u → DeskStep s step u
-
--- A step is given until it is taken, again each time that it found no memory. Its mails may be owed then.
-abbrev pub IsTakenAtLast : DeskRunState → Step → List Bool → DeskRunState → Type 0
-IsTakenAtLast s step [] t = DeskStep s step t ⊎ DeskStep s step (discharged t)
-IsTakenAtLast s step (fed ∷ more) t = (u : DeskRunState) × (next : Step) × LeavesForAgain s step fed u
-    × IsAgain fed step next × IsTakenAtLast u next more t
-
--- steps one after another, each given until it is taken
-abbrev pub RunsOn : DeskRunState → List (Step × List Bool) → DeskRunState → Type 0
-RunsOn s [] t = t ≡ s
-RunsOn s (given ∷ more) t = (u : DeskRunState) × IsTakenAtLast s given.0 given.1 u × RunsOn u more t
-
--- The law: steps that are given until they are taken, from a run that owes no mails, are a run, once what is
--- owed is written.
-abbrev pub GivenAgain : Type 0
-GivenAgain = (s t : DeskRunState) (given : List (Step × List Bool)) → s.owes ≡ false → RunsOn s given t
-    → DeskRun s (map (λ g. g.0) given) (discharged t)

@@ -1,10 +1,8 @@
 -- The messages that a step may leave of a client, what was written to each connection number, and what a step
 -- that found no memory says of its bytes (`docs/model.md`, "The desk").
-use Rattle.std.specs.Prelude.{◌≡◌, ◌≢◌, ℕ, ◌<◌, Bool, true, false, List, [], ◌∷◌, ◌++◌, length, map, Option}
+use Rattle.std.specs.Prelude.{◌≡◌, ◌≢◌, ℕ, ◌<◌, Bool, true, false, List, [], ◌++◌, length, map, Option}
 use Rattle.std.specs.Prelude.{Some}
 use Rattle.std.specs.Option.{option_map, option_map_or}
-use Rattle.fe_state.specs.declared.entry.Entry.{Entry}
-use Rattle.fe_front.specs.Front.{FrontState}
 use Rattle.fe_keeper.specs.declared.fault.Fault.{Fault}
 use Rattle.fe_keeper.specs.declared.fault.Fault.TheVariants as keeper
 use Rattle.fe_wire.specs.Stream.{Decoding}
@@ -14,8 +12,7 @@ use Rattle.fe_desk.specs.declared.fault.DeskFault.TheVariants as desk
 use Rattle.fe_desk.specs.declared.step.Step.{Step}
 use Rattle.fe_desk.specs.declared.step.Step.TheVariants as step
 use Rattle.fe_desk.specs.DeskRunState.{DeskRunState}
-use Rattle.fe_desk.specs.Steps.{find, with_left, Reads}
-use Rattle.fe_messages.specs.Taking.{Takes}
+use Rattle.fe_desk.specs.Steps.{find, Reads}
 use Rattle.std.specs.List.{flat_map, AllByRecursion}
 use Rattle.fe_wire.specs.Spelling.{reply_spelling, ReplyFits}
 use Rattle.fe_wire.specs.declared.server_message.ServerMessage.{ServerMessage}
@@ -23,16 +20,6 @@ use Rattle.fe_wire.specs.declared.server_message.ServerMessage.{ServerMessage}
 -- the messages of a connection number that came whole and are not taken
 abbrev pub left_of : DeskRunState → ℕ → List ClientMessage
 left_of s conn = option_map_or (λ c. c.left) (find conn s.clients) []
-
--- The first message that is left of a connection is taken, maybe refused, by the front; the others are left.
-pub record TakesNext (s : DeskRunState) (conn : ℕ) (t : DeskRunState) : Type 0 where
-  pub message : ClientMessage
-  pub left : List ClientMessage
-  pub entries : List Entry
-  pub front : FrontState
-  pub first : left_of s conn ≡ message ∷ left
-  pub takes : Takes s.front conn message entries front
-  pub after : t ≡ record (with_left s conn left) { front = front }
 
 -- what was written to each connection number
 abbrev pub outputs : DeskRunState → List (ℕ × List ℕ)
@@ -46,10 +33,6 @@ desk_fault_of fault fed = desk.Store fault
 -- the decoder of a connection number, which says what was read of its stream; None if the number never came
 abbrev pub read_by : DeskRunState → ℕ → Option Decoding
 read_by s conn = option_map (λ c. c.decoder) (find conn s.clients)
-
--- `all` ends with the messages `last`
-abbrev pub EndsWith : List ClientMessage → List ClientMessage → Type 0
-EndsWith all last = (first : List ClientMessage) × (all ≡ first ++ last)
 
 -- each connection number's decoder is the same in both states: nothing was read
 abbrev pub ReadsNone : DeskRunState → DeskRunState → Type 0

@@ -17,7 +17,8 @@ use Rattle.fe_desk.specs.declared.trace.Trace.{Trace}
 use Rattle.fe_mail.specs.Connections.{mails_on}
 use Rattle.fe_desk.specs.declared.step.Step.{Step}
 use Rattle.fe_desk.specs.Ends.{Checks, FindsNoMemory, TearsStep, discharged_desk, WritesSome}
-use Rattle.fe_desk.specs.Steps.{Acts, DeskStep, IsAgain}
+use Rattle.fe_desk.specs.GivenAgain.{IsAgain}
+use Rattle.fe_desk.specs.Steps.{Acts, DeskStep}
 use Rattle.fe_disk.specs.declared.disk.Disk.{Ghosts}
 use Rattle.fe_keeper.specs.Ends.{Works, Breaks}
 use Rattle.fe_disk.specs.Disk.{Rises, MakesAtMost}

@@ -1,13 +1,13 @@
 -- What each step of a desk (a front, its connections' streams and a keeper, which owns the store, in one
 -- thread) does. See `docs/model.md`, "The desk".
-use Rattle.std.specs.Prelude.{◌≡◌, ℕ, List, [], ◌∷◌, Bool, true, false, nat_eq, ◌++◌, Option, Some, None}
+use Rattle.std.specs.Prelude.{◌≡◌, ℕ, List, [], ◌∷◌, Bool, false, nat_eq, ◌++◌, Option, Some, None}
 use Rattle.std.specs.Prelude.{if◌then◌else◌, is_some, MatchBool, ⊤}
 use Rattle.fe_state.specs.declared.entry.Entry.{Entry}
 use Rattle.fe_wire.specs.declared.client_message.ClientMessage.{ClientMessage}
 use Rattle.fe_front.specs.Front.{FrontState, is_connected}
 use Rattle.fe_messages.specs.Taking.{Takes}
-use Rattle.fe_desk.specs.DeskRunState.{DeskRunState, Client, emptied, discharged, roomy, cut, stored, posted}
-use Rattle.fe_desk.specs.DeskRunState.{is_making}
+use Rattle.fe_desk.specs.DeskRunState.{DeskRunState, Client, emptied, discharged, cut, stored, posted}
+use Rattle.fe_desk.specs.Room.{roomy, unmade}
 use Rattle.fe_wire.specs.Stream.{Decoding, HasRead, HasReadFrom}
 use Rattle.fe_wire.specs.declared.version.Version.TheVariants.{Two}
 use Rattle.fe_front.specs.Steps as front
@@ -63,10 +63,6 @@ abbrev pub clients_with : List Client → ℕ → Decoding → List Client
 clients_with cs conn d =
     if is_some (find conn cs) then on_client conn (λ c. record c { decoder = d; left = [] }) cs else cs
     ++ new_client conn d ∷ []
-
--- room is not being made for this connection any more
-abbrev pub unmade : DeskRunState → ℕ → DeskRunState
-unmade s conn = if is_making s conn then record s { making = None } else s
 
 -- a connection came, with a stream of its own
 pub record Connects (s : DeskRunState) (conn : ℕ) (t : DeskRunState) : Type 0 where
@@ -141,12 +137,6 @@ pub record DeskStep (s : DeskRunState) (step : Step) (t : DeskRunState) : Type 0
 abbrev pub DeskRun : DeskRunState → List Step → DeskRunState → Type 0
 DeskRun s [] t = t ≡ s
 DeskRun s (step ∷ steps) t = (u : DeskRunState) × DeskStep s step u × DeskRun u steps t
-
--- how a step that found no memory is given again: unchanged, or with an empty piece if its bytes were read
-abbrev pub IsAgain : Bool → Step → Step → Type 0
-IsAgain false before next = next ≡ before
-IsAgain true (step.Bytes conn piece) (step.Bytes c p) = (c ≡ conn) × (p.items ≡ [])
-IsAgain true before next = ⊥
 
 -- ---- a desk with nothing to write to its clients
 

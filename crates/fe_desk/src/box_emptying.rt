@@ -6,7 +6,6 @@ ghost use Rattle.fe_mail.specs.Connections.{mails_on};
 ghost use Rattle.fe_desk.specs.DeskRunState.{all_written_out, all_emptied};
 ghost use Rattle.fe_desk.specs.Ends.{WritesFirst};
 ghost use Rattle.fe_desk.specs.within.Desk.{IsMailedFrom, HasAllWithMail, client_of, KeepsFront};
-ghost use Rattle.fe_desk.specs.within.Desk.{AreWrittenOutLater};
 
 use crate::port::{Port, has_no_mail};
 use crate::port_set::PortSet;
@@ -27,9 +26,6 @@ pub(crate) fn empty_boxes(
     ensures written_out { OnOk result (map client_of ports.new.items
         ≡ all_written_out front.old (map client_of ports.old.items)) }
     ensures emptied { OnOk result (front.new ≡ all_emptied front.old (map client_of ports.old.items)) }
-    ensures later { OnErr result
-        (AreWrittenOutLater front.old (map client_of ports.old.items) front.new
-        (map client_of ports.new.items)) }
     ensures writes { OnErr result
         (WritesFirst front.old (map client_of ports.old.items) front.new (map client_of ports.new.items)) }
     ensures numbers { map (λ p. p.conn) ports.new.items ≡ map (λ p. p.conn) ports.old.items }

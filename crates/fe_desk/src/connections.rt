@@ -5,7 +5,7 @@ ghost use Rattle.std.specs.Prelude.{MatchBool, if◌then◌else◌};
 ghost use Rattle.fe_front.specs.Front.{is_connected};
 ghost use Rattle.fe_desk.specs.Steps as steps;
 ghost use Rattle.fe_desk.specs.Steps.{find, on_client, Connects};
-ghost use Rattle.fe_desk.specs.DeskRunState.{is_making};
+ghost use Rattle.fe_desk.specs.Room.{is_making};
 ghost use Rattle.fe_desk.specs.within.Desk.{IsFirstAt, Joins, client_of, desk_of, run_state_of, Stays};
 
 use crate::desk_inner::DeskInner;

@@ -2,7 +2,8 @@
 //! (`docs/model.md`, "The desk"). A law is a function that does nothing; its clause is proved.
 
 ghost use Rattle.fe_desk.specs.Acknowledged.{AcknowledgedStand, AnySessionMayBeAsked};
-ghost use Rattle.fe_desk.specs.Lives.{LivesJoin, StopsAreLives, GivenAgain};
+ghost use Rattle.fe_desk.specs.GivenAgain.{GivenAgain};
+ghost use Rattle.fe_desk.specs.Lives.{LivesJoin, StopsAreLives};
 
 use fe_disk::Disk;
 use fe_keeper::images_stand_for_one;
@@ -38,8 +39,9 @@ pub fn stops_are_lives<D: Disk>()
     images_stand_for_one();
 }
 
-/// Steps that found no memory, and are given again until they are taken, are the run of those steps. The
-/// mails that the last of them owes are written by the next step.
-pub fn steps_are_given_again()
-    ensures { GivenAgain }
+/// Steps that found no memory (`EndsByMemory.finds` of `Desk::step: is_step`), and are given again until they
+/// are taken, are the run of those steps, each once. The mails that the last of them owes are written by the
+/// next step.
+pub fn steps_are_given_again<D: Disk>()
+    ensures { GivenAgain D }
 {}

@@ -4,10 +4,9 @@
 ghost use Rattle.std.specs.Prelude.{◌≡◌, ◌<◌, ◌∷◌, length};
 ghost use Rattle.fe_desk.specs.Steps.{with_left};
 ghost use Rattle.fe_desk.specs.within.Desk.{ArePlaces, IsFirstAt, client_of, desk_of, run_state_of, IsReady};
-ghost use Rattle.fe_desk.specs.Messages.{left_of, outputs, desk_fault_of, EndsWith};
-ghost use Rattle.fe_desk.specs.Ends.{StopsBefore};
-ghost use Rattle.fe_desk.specs.within.Goes.{Goes, GoesPiece, LeavesSome, LeavesStream, StopsStream};
-ghost use Rattle.fe_desk.specs.within.Goes.{TakesLeft, TakesStream};
+ghost use Rattle.fe_desk.specs.Messages.{left_of, desk_fault_of};
+ghost use Rattle.fe_desk.specs.Ends.{StopsBefore, StopsShort};
+ghost use Rattle.fe_desk.specs.within.Goes.{Goes, GoesPiece, StopsStream, TakesLeft, TakesStream};
 
 use crate::desk_inner::DeskInner;
 use crate::fault::DeskFault;
@@ -30,9 +29,8 @@ impl<D: Disk> DeskInner<D> {
         requires ready { IsReady D.Disk (desk_of self.old) }
         requires places { ArePlaces places.old (run_state_of self.old).clients }
         ensures places { ArePlaces places.new (run_state_of self.old).clients }
-        ensures outputs { outputs (run_state_of self.new) ≡ outputs (run_state_of self.old) }
         ensures goes { GoesPiece D.Disk (TakesStream (run_state_of self.old) conn piece.now)
-            (LeavesStream (run_state_of self.old) conn piece.now)
+            (λ fed t. StopsShort fed (run_state_of self.old) conn piece.now t)
             (StopsStream (run_state_of self.old) conn piece.now)
             result (desk_of self.old) (desk_of self.new) }
     {
@@ -66,10 +64,8 @@ impl<D: Disk> DeskInner<D> {
         ensures place { IsFirstAt (run_state_of self.new).clients conn at }
         ensures clients { (run_state_of self.new).clients
             ≡ (with_left (run_state_of self.old) conn (left_of (run_state_of self.new) conn)).clients }
-        ensures rest { EndsWith (left_of (run_state_of self.old) conn)
-            (left_of (run_state_of self.new) conn) }
         ensures goes { Goes D.Disk (TakesLeft (run_state_of self.old) conn)
-            (λ d. LeavesSome (run_state_of self.old) conn d.run_state)
+            (λ d. StopsBefore (run_state_of self.old) conn d.run_state)
             (StopsBefore (run_state_of self.old) conn) result
             (desk_of self.old) (desk_of self.new) }
     {

@@ -13,8 +13,7 @@ ghost use Rattle.fe_wire.specs.Stream.{CompletesMessage};
 ghost use Rattle.fe_desk.specs.DeskRunState.{emptied_box, written_out};
 ghost use Rattle.fe_desk.specs.Steps.{BeginsStream, Reads, new_client};
 ghost use Rattle.fe_desk.specs.Ends.{StopsWriting};
-ghost use Rattle.fe_desk.specs.within.Desk.{HasAllWithMail, client_of, KeepsFront, KeepsEmpty};
-ghost use Rattle.fe_desk.specs.within.Desk.{IsWrittenOutLater};
+ghost use Rattle.fe_desk.specs.within.Desk.{HasAllWithMail, client_of, KeepsFront};
 
 use crate::written::Written;
 use fe_front::{ConnectionSet, Front};
@@ -119,13 +118,9 @@ impl Port {
         requires { HasAllWithMail front.old mailed.now }
         ensures written_out { OnOk result (client_of self.new ≡ written_out front.old (client_of self.old)) }
         ensures emptied { OnOk result (front.new ≡ emptied_box front.old self.old.conn) }
-        // What is not written now is written later, to the same effect.
-        ensures later { OnErr result (IsWrittenOutLater front.old (client_of self.old) front.new
-            (client_of self.new)) }
         ensures stops { OnErr result (StopsWriting front.old (client_of self.old) front.new
             (client_of self.new)) }
         ensures front { KeepsFront front.old front.new }
-        ensures empty { KeepsEmpty front.old front.new }
     {
         if !self.may_owe(mailed) {
             return Ok(());

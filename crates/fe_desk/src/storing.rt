@@ -6,10 +6,9 @@ ghost use Rattle.fe_front.specs.Front.{has_room};
 ghost use Rattle.fe_front.specs.Posting.{may_have, HasItsBox};
 ghost use Rattle.fe_desk.specs.declared.handed.Handed.TheVariants.{Cut};
 ghost use Rattle.fe_desk.specs.DeskRunState as way;
-ghost use Rattle.fe_desk.specs.DeskRunState.{stored, posted, cleared, begun_room, roomy};
-ghost use Rattle.fe_desk.specs.Crash.{with_handed};
-ghost use Rattle.fe_desk.specs.Ends.{StopsMaking};
-ghost use Rattle.fe_desk.specs.within.Desk.{desk_of, run_state_of, IsDesk, IsReady, Stays};
+ghost use Rattle.fe_desk.specs.DeskRunState.{stored, posted, cleared};
+ghost use Rattle.fe_desk.specs.Room.{begun_room, roomy, StopsMaking};
+ghost use Rattle.fe_desk.specs.within.Desk.{desk_of, run_state_of, IsDesk, IsReady, Stays, with_handed};
 ghost use Rattle.fe_desk.specs.within.Goes.{Goes, GoesTo, Is, IsUnstored, WasBegun};
 
 use crate::desk_inner::DeskInner;

@@ -8,7 +8,7 @@ use Rattle.fe_keeper.specs.Damage.{StandsForOne}
 use Rattle.fe_keeper.specs.Stands.{StandsFor, EachStandsFor, LeavesPrefix}
 use Rattle.fe_keeper.specs.declared.fault.Fault.TheVariants as store
 use Rattle.fe_mail.specs.Connections.{mails_on}
-use Rattle.fe_desk.specs.Crash.{DeskState, Advances, IsFrom, disk_of, TellsStep, desk_anew}
+use Rattle.fe_desk.specs.Crash.{DeskState, Advances, IsFrom, disk_of, desk_anew}
 use Rattle.fe_desk.specs.DeskRunState.{DeskRunState, IsFirstRunState}
 use Rattle.fe_desk.specs.Steps.{DeskStep, AreWritten}
 use Rattle.fe_desk.specs.declared.step.Step.{Step}
@@ -28,7 +28,6 @@ use Rattle.fe_schedules.specs.declared.fault.MachineFault.TheVariants as machine
 use Rattle.fe_schedules.specs.Runs.{IsMachine, IsRun, IsAt, last_of, last_disk}
 use Rattle.fe_schedules.specs.declared.machine.Machine.{Machine}
 use Rattle.fe_schedules.specs.declared.run.Run.{Run}
-use Rattle.fe_disk.specs.declared.disk.Disk.{Ghosts}
 use Rattle.fe_keeper.specs.Ends.{Works}
 
 -- what a step of the desk promises of the store
@@ -149,15 +148,10 @@ no_device : (f : DeskFault) → f ≡ desk.NoMemory out_of_memory false → f �
 no_device f e d = none-some 0 (ap store_of (sym e ∙ d))
 
 -- what a step's fault says of the disk
-pub tells_of : {D : Type 0} (model : Ghosts D) (old : DeskState D) (x : Step) (new : DeskState D) (f : DeskFault) → Ends model old x (Err f) new → TellsStep model old new f
-tells_of model old x new (desk.Store cause) e = (e.0, e.1.failed)
-tells_of model old x new (desk.NoMemory error fed) e = e.sound.fine
-tells_of model old x new (desk.Unwritten error) e = e.sound.fine
-
-pub step_tells : (old new : DeskState MemoryState) (f : DeskFault) (r : MachineFault) → (disk_of old).failures ≡ 0 → of_desk f ≡ Some r → TellsStep memory_model old new f → TellsDisk (disk_of new) r
-step_tells old new (desk.Store cause) r calm is t = device_tells (desk.Store cause) r (disk_of new) (ap (λ c. desk.Store c) t.0) is (rose (disk_of old).failures (disk_of new).failures calm t.1.rises)
-step_tells old new (desk.NoMemory error fed) r calm is t = memory_tells (desk.NoMemory error fed) r (disk_of new) refl is (t.still ∙ calm)
-step_tells old new (desk.Unwritten error) r calm is t = memory_tells (desk.Unwritten error) r (disk_of new) refl is (t.still ∙ calm)
+pub step_tells : (old new : DeskState MemoryState) (x : Step) (f : DeskFault) (r : MachineFault) → (disk_of old).failures ≡ 0 → of_desk f ≡ Some r → Ends memory_model old x (Err f) new → TellsDisk (disk_of new) r
+step_tells old new x (desk.Store cause) r calm is e = device_tells (desk.Store cause) r (disk_of new) (ap (λ c. desk.Store c) e.0) is (rose (disk_of old).failures (disk_of new).failures calm e.1.failed.rises)
+step_tells old new x (desk.NoMemory error fed) r calm is e = memory_tells (desk.NoMemory error fed) r (disk_of new) refl is (e.sound.fine.still ∙ calm)
+step_tells old new x (desk.Unwritten error) r calm is e = memory_tells (desk.Unwritten error) r (disk_of new) refl is (e.sound.fine.still ∙ calm)
 
 pub format_tells : (old new : MemoryState) (f : DeskFault) (r : MachineFault) → old.failures ≡ 0 → of_desk f ≡ Some r → (f ≡ desk.Store store.Device) ⊎ ((f ≡ desk.Store store.Unformatted) ⊎ (f ≡ desk.NoMemory out_of_memory false))
     → (f ≡ desk.Store store.Device → Rises old.failures new.failures) → (f ≢ desk.Store store.Device → new.failures ≡ old.failures) → TellsDisk new r

@@ -16,8 +16,7 @@ use Rattle.fe_desk.specs.declared.port.Port.{Port}
 use Rattle.fe_desk.specs.declared.port_places.PortPlaces.{PortPlaces}
 use Rattle.fe_desk.specs.declared.port_set.PortSet.{PortSet}
 use Rattle.fe_desk.specs.Acknowledged.{cut_entries}
-use Rattle.fe_desk.specs.DeskRunState.{Client, DeskRunState, written_out, all_written_out, all_emptied}
-use Rattle.fe_desk.specs.DeskRunState.{emptied_box, output_of, Extends}
+use Rattle.fe_desk.specs.DeskRunState.{Client, DeskRunState, emptied_box, Extends}
 use Rattle.fe_desk.specs.Steps.{find, BeginsStream, clients_with}
 use Rattle.fe_desk.specs.Crash.{DeskState, IsFrom, disk_of}
 use Rattle.fe_disk.specs.declared.disk.Disk.{Ghosts}
@@ -54,6 +53,14 @@ run_state_of p =
 
 abbrev pub desk_of : {D : Type 0} → DeskInner D → DeskState D
 desk_of p = record { run_state = run_state_of p; keeper = p.keeper; synced = p.trace.synced }
+
+-- the run, with this batch on its way to the store
+abbrev pub handing : DeskRunState → Handed → DeskRunState
+handing s handed = record s { handed = handed }
+
+-- a desk with this batch on its way to the store
+abbrev pub with_handed : {D : Type 0} → DeskState D → Handed → DeskState D
+with_handed d handed = record d { run_state = handing d.run_state handed }
 
 -- ---- what ties them
 
@@ -94,13 +101,15 @@ pub record IsReady {D : Type 0} (model : Ghosts D) (d : DeskState D) : Type 0 wh
 
 -- ---- what stays while mails are taken and connections go
 
--- the state, what is pending, what is out and what is durable stay, and no connection comes
+-- the state, what is pending, what is out and what is durable stay, no connection comes, and no empty box
+-- gets a mail
 pub record KeepsFront (f g : FrontState) : Type 0 where
   pub state : g.service.state ≡ f.service.state
   pub pending : g.service.pending ≡ f.service.pending
   pub out : g.out ≡ f.out
   pub durable : g.durable ≡ f.durable
   pub none_comes : (conn : ℕ) → is_connected g conn ≡ true → is_connected f conn ≡ true
+  pub empty : (conn : ℕ) → mails_on f.connections conn ≡ [] → mails_on g.connections conn ≡ []
 
 -- the groups, those that are stored and the keeper stay
 pub record HasStore {D : Type 0} (old new : DeskState D) : Type 0 where
@@ -119,26 +128,6 @@ pub record OnlyWrites {D : Type 0} (model : Ghosts D) (old new : DeskState D) : 
   pub desk : IsDesk model new
   pub store : HasStore old new
   pub extends : Extends (outputs old.run_state) (outputs new.run_state)
-
--- no empty box gets a mail
-pub record KeepsEmpty (f g : FrontState) : Type 0 where
-  pub empty : (conn : ℕ) → mails_on f.connections conn ≡ [] → mails_on g.connections conn ≡ []
-
--- mails of a client are written, maybe not all; to write the rest later comes to the same as to write all at
--- once
-pub record IsWrittenOutLater (f : FrontState) (c : Client) (g : FrontState) (d : Client) : Type 0 where
-  pub conn : d.conn ≡ c.conn
-  pub output : (more : List ℕ) × (d.written ≡ c.written ++ more)
-  pub front : emptied_box g d.conn ≡ emptied_box f c.conn
-  pub client : written_out g d ≡ written_out f c
-
--- mails of these clients are written, maybe not all; to write the rest later comes to the same as to write
--- all at once
-pub record AreWrittenOutLater (f : FrontState) (cs : List Client) (g : FrontState)
-    (ds : List Client) : Type 0 where
-  pub front : all_emptied g ds ≡ all_emptied f cs
-  pub clients : all_written_out g ds ≡ all_written_out f cs
-  pub output : Extends (map output_of cs) (map output_of ds)
 
 -- ---- the clients by their connection numbers
 
@@ -182,11 +171,6 @@ pub record ArePlaces (places : PortPlaces) (clients : List Client) : Type 0 wher
 pub record IsQuiet (f : FrontState) (c : Client) : Type 0 where
   pub reply : c.reply ≡ None
   pub box : mails_on f.connections c.conn ≡ []
-
--- nothing is to be written to any of these
-abbrev pub AreQuiet : FrontState → List Client → Type 0
-AreQuiet f [] = Unit {0}
-AreQuiet f (c ∷ cs) = IsQuiet f c × AreQuiet f cs
 
 -- the clients from this index on: nothing is to be written to one that is not in the set, once the boxes
 -- before it are empty

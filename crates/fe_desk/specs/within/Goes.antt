@@ -1,8 +1,7 @@
 -- How a call goes: one relation for each kind of call, by cases of what it answers. `model` is `D.Disk`, the
 -- members of the disk model. Calls go one after the other by `then` (`proofs/Goes`) (`docs/model.md`, "The
 -- desk").
-use Rattle.std.specs.Prelude.{◌≡◌, ◌⊎◌, ℕ, ◌<◌, Bool, true, List, [], length, if◌then◌else◌, Result, Ok, Err}
-use Rattle.std.specs.Prelude.{MatchBool, MatchResult}
+use Rattle.std.specs.Prelude.{◌≡◌, ◌⊎◌, ℕ, Bool, true, List, [], Result, Ok, Err, MatchResult}
 use Rattle.fe_memory.specs.declared.OutOfMemory.{OutOfMemory}
 use Rattle.fe_disk.specs.declared.disk.Disk.{Ghosts}
 use Rattle.fe_keeper.specs.declared.fault.Fault.{Fault}
@@ -11,12 +10,13 @@ use Rattle.fe_keeper.specs.declared.fault.Fault.TheVariants.{Unformatted}
 use Rattle.fe_desk.specs.declared.fault.DeskFault.{DeskFault}
 use Rattle.fe_desk.specs.declared.fault.DeskFault.TheVariants as desk
 use Rattle.fe_desk.specs.declared.step.Step.{Step}
-use Rattle.fe_desk.specs.DeskRunState.{DeskRunState, emptied, discharged, is_making}
-use Rattle.fe_desk.specs.Steps.{HasNoMail, TakesAll, Acts, IsAgain, TakesBytes, find, with_left}
+use Rattle.fe_desk.specs.DeskRunState.{DeskRunState, emptied, discharged}
+use Rattle.fe_desk.specs.Room.{is_making}
+use Rattle.fe_desk.specs.Steps.{HasNoMail, TakesAll, Acts, TakesBytes, find, with_left}
 use Rattle.fe_desk.specs.Ends.{WritesSome, StoresMore, Checks, Lacks, Tears, TearsStep, HasCut, StopsBefore}
-use Rattle.fe_desk.specs.Ends.{StopsBehind, StopsShort}
+use Rattle.fe_desk.specs.Ends.{StopsBehind}
 use Rattle.fe_desk.specs.Crash.{DeskState, Advances}
-use Rattle.fe_desk.specs.Messages.{left_of, outputs, ReadsNone, ReadsPiece, TellsFed}
+use Rattle.fe_desk.specs.Messages.{left_of}
 use Rattle.fe_desk.specs.within.Desk.{IsDesk}
 use Rattle.fe_keeper.specs.Ends.{Works, Breaks}
 
@@ -104,25 +104,9 @@ WasBegun s conn t = (is_making s conn ≡ true) × (t ≡ s)
 abbrev pub TakesLeft : DeskRunState → ℕ → DeskRunState → Type 0
 TakesLeft s conn t = TakesAll (with_left s conn []) conn (left_of s conn) t
 
--- memory was short for the next of them: it is left, with those after it, and to take these later comes to
--- the same as to take all at once
-pub record LeavesSome (s : DeskRunState) (conn : ℕ) (t : DeskRunState) : Type 0 where
-  pub stops : StopsBefore s conn t
-  pub still : 0 < length (left_of t conn)
-  pub again : (u : DeskRunState) → TakesLeft t conn u → TakesLeft s conn u
-
 -- the bytes of a connection are taken
 abbrev pub TakesStream : DeskRunState → ℕ → List ℕ → DeskRunState → Type 0
 TakesStream s conn piece t = TakesBytes s (find conn s.clients) piece t
-
--- memory was short for them: what was read, and where it stopped; to give the rest again comes to the same as
--- to take all at once
-pub record LeavesStream (s : DeskRunState) (conn : ℕ) (piece : List ℕ) (fed : Bool)
-    (t : DeskRunState) : Type 0 where
-  pub stops : StopsShort fed s conn piece t
-  pub read : MatchBool fed (ReadsPiece s conn piece t) (ReadsNone s t)
-  pub again : (u : DeskRunState) → TakesStream t conn (if fed then [] else piece) u
-      → TakesStream s conn piece u
 
 -- the device failed to store a batch while they were taken
 abbrev pub StopsStream : DeskRunState → ℕ → List ℕ → DeskRunState → Type 0
@@ -137,29 +121,14 @@ pub record HasActed {D : Type 0} (model : Ghosts D) (old : DeskState D) (step : 
   pub checked : Checks step old new
   pub fine : Works model old.keeper new.keeper
 
--- memory was short for it
-pub record IsLacking {D : Type 0} (model : Ghosts D) (fed : Bool) (old : DeskState D) (step : Step)
-    (new : DeskState D) : Type 0 where
-  pub lacks : Lacks fed step old new
-  pub read : TellsFed fed old.run_state step new.run_state
-  pub again : (next : Step) (t : DeskRunState) → IsAgain fed step next → Acts new.run_state next t
-      → Acts old.run_state step t
-  pub silent : outputs new.run_state ≡ outputs old.run_state
-  pub fine : Works model old.keeper new.keeper
-
--- the device failed in it
-pub record IsBroken {D : Type 0} (model : Ghosts D) (old : DeskState D) (step : Step)
-    (new : DeskState D) : Type 0 where
-  pub breaks : TearsStep step old new
-  pub silent : outputs new.run_state ≡ outputs old.run_state
-  pub failed : Breaks model old.keeper new.keeper
-
 -- how a step that acts ends, by its answer
 abbrev pub ActEnds : {D : Type 0} → Ghosts D → DeskState D → Step → DeskState D → Result (Unit {0}) DeskFault
     → Type 0
 ActEnds model old step new (Ok done) = HasActed model old step new
-ActEnds model old step new (Err (desk.Store cause)) = (cause ≡ Device) × IsBroken model old step new
-ActEnds model old step new (Err (desk.NoMemory error fed)) = IsLacking model fed old step new
+ActEnds model old step new (Err (desk.Store cause)) =
+    (cause ≡ Device) × TearsStep step old new × Breaks model old.keeper new.keeper
+ActEnds model old step new (Err (desk.NoMemory error fed)) =
+    Lacks fed step old new × Works model old.keeper new.keeper
 ActEnds model old step new (Err (desk.Unwritten error)) = ⊥
 
 -- A step acts, and leaves a desk with the mails that are owed as they were.
@@ -177,16 +146,10 @@ pub record HasEmptied (s t : DeskRunState) : Type 0 where
   pub after : t ≡ emptied s
   pub quiet : HasNoMail t
 
--- memory was short for some of the mails, which are owed now: written later, they come to the same
-pub record StillHolds (s t : DeskRunState) : Type 0 where
-  pub later : emptied t ≡ emptied s
-  pub owes : t.owes ≡ true
-  pub writes : WritesSome s t
-
 -- the boxes are emptied, or memory is short for some of the mails
 abbrev pub Empties : Result (Unit {0}) OutOfMemory → DeskRunState → DeskRunState → Type 0
-Empties result s t = MatchResult result (λ _. HasEmptied s t) (λ _. StillHolds s t)
+Empties result s t = MatchResult result (λ _. HasEmptied s t) (λ _. WritesSome s t)
 
 -- the mails that an earlier step left are written, or some of them
 abbrev pub Settles : Result (Unit {0}) OutOfMemory → DeskRunState → DeskRunState → Type 0
-Settles result s t = MatchResult result (λ _. t ≡ discharged s) (λ _. (s.owes ≡ true) × StillHolds s t)
+Settles result s t = MatchResult result (λ _. t ≡ discharged s) (λ _. (s.owes ≡ true) × WritesSome s t)

@@ -5,8 +5,8 @@ use Rattle.fe_desk.specs.within.Desk.{client_of}
 use Rattle.fe_desk.specs.declared.port.Port.{Port}
 use Rattle.fe_desk.proofs.WithMail.{still_all}
 use Rattle.fe_desk.proofs.Walking.{walk_begun, one_walked, walked_past, walked_out, walked_empty}
-use Rattle.fe_desk.proofs.Emptying.{itself, both, all_alike, port_later, on_any_err}
-use Rattle.fe_desk.proofs.Writing.{port_stops}
+use Rattle.fe_desk.proofs.Emptying.{itself, both, all_alike, on_any_err}
+use Rattle.fe_desk.proofs.Writing.{port_stops, stops_number}
 use Rattle.fe_desk.proofs.box_emptying.empty_boxes.Goals as goal
 
 pub loop-at-init : goal.loop-at-init
@@ -38,16 +38,8 @@ loop-at-preserved c =
           (one_walked c.args.front.now (map client_of c.args.ports.now.items) c.args.written.now c.loop-at.front c.take_mails.new.front ports at c.index_mut.result.now c.take_mails.new.self lt c.index_mut.ensures.value c.in_ok-take_mails.ensures.emptied c.in_ok-take_mails.ensures.written_out c.loop-at.invariant.walked);
       numbers = all_alike (λ (p : Port). p.conn) ports at c.index_mut.result.now c.take_mails.new.self lt c.index_mut.ensures.value (ap (λ (x : Client). x.conn) c.in_ok-take_mails.ensures.written_out) ∙ c.loop-at.invariant.numbers;
       keeps = both c.args.front.now c.loop-at.front c.take_mails.new.front c.loop-at.invariant.keeps c.take_mails.ensures.front;
-      mailed = still_all c.loop-at.front c.take_mails.new.front c.args.mailed.now c.take_mails.ensures.empty c.loop-at.invariant.mailed;
+      mailed = still_all c.loop-at.front c.take_mails.new.front c.args.mailed.now c.take_mails.ensures.front c.loop-at.invariant.mailed;
     }
-
-pub returns-in_err-take_mails-clause-later : goal.returns-in_err-take_mails-clause-later
-returns-in_err-take_mails-clause-later c =
-    let ports = c.loop-at.ports.items in
-    let len : c.len-in-loop-at.result ≡ length ports = search rules in
-    let test = c.loop-at-test.true in
-    let lt : c.loop-at.at < length ports = omega (arith, test, len) in
-    on_any_err c.from_residual.result (port_later c.args.front.now (map client_of c.args.ports.now.items) c.loop-at.front c.take_mails.new.front ports c.loop-at.at c.index_mut.result.now c.take_mails.new.self lt c.index_mut.ensures.value c.loop-at.invariant.walked.written_out c.in_err-take_mails.ensures.later c.take_mails.ensures.empty)
 
 pub returns-in_err-take_mails-clause-numbers : goal.returns-in_err-take_mails-clause-numbers
 returns-in_err-take_mails-clause-numbers c =
@@ -55,7 +47,7 @@ returns-in_err-take_mails-clause-numbers c =
     let len : c.len-in-loop-at.result ≡ length ports = search rules in
     let test = c.loop-at-test.true in
     let lt : c.loop-at.at < length ports = omega (arith, test, len) in
-    all_alike (λ (p : Port). p.conn) ports c.loop-at.at c.index_mut.result.now c.take_mails.new.self lt c.index_mut.ensures.value c.in_err-take_mails.ensures.later.conn ∙ c.loop-at.invariant.numbers
+    all_alike (λ (p : Port). p.conn) ports c.loop-at.at c.index_mut.result.now c.take_mails.new.self lt c.index_mut.ensures.value (stops_number c.loop-at.front (client_of c.index_mut.result.now) c.take_mails.new.front (client_of c.take_mails.new.self) c.in_err-take_mails.ensures.stops) ∙ c.loop-at.invariant.numbers
 
 pub returns-in_err-take_mails-clause-writes : goal.returns-in_err-take_mails-clause-writes
 returns-in_err-take_mails-clause-writes c =
@@ -70,11 +62,11 @@ returns-clause-written_out c =
     let ports = c.loop-at.ports.items in
     let len : c.len-in-loop-at.result ≡ length ports = search rules in
     let test = c.loop-at-test.false in
-    walked_out c.args.front.now (map client_of c.args.ports.now.items) c.loop-at.front ports c.loop-at.at (omega (arith, test, len)) c.loop-at.invariant.walked.written_out
+    walked_out c.args.front.now (map client_of c.args.ports.now.items) c.loop-at.front ports c.loop-at.at (omega (arith, test, len)) c.loop-at.invariant.walked.written
 
 pub returns-clause-emptied : goal.returns-clause-emptied
 returns-clause-emptied c =
     let ports = c.loop-at.ports.items in
     let len : c.len-in-loop-at.result ≡ length ports = search rules in
     let test = c.loop-at-test.false in
-    walked_empty c.args.front.now (map client_of c.args.ports.now.items) c.loop-at.front ports c.loop-at.at (omega (arith, test, len)) c.loop-at.invariant.walked.written_out
+    walked_empty c.args.front.now (map client_of c.args.ports.now.items) c.loop-at.front ports c.loop-at.at (omega (arith, test, len)) c.loop-at.invariant.walked.written

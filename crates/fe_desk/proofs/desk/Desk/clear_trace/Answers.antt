@@ -2,7 +2,8 @@ use Rattle.std.proofs.Common.{ℕ, List, map, subst, sym, ap, ◌∙◌}
 use Rattle.fe_keeper.specs.Stands.{EachStandsFor}
 use Rattle.fe_desk.specs.Crash.{DeskState, desk_anew, disk_of}
 use Rattle.fe_desk.specs.Acknowledged.{IsAcknowledged}
-use Rattle.fe_desk.specs.DeskRunState.{Client, output_of}
+use Rattle.fe_desk.specs.DeskRunState.{Client}
+use Rattle.fe_desk.proofs.Outputs.{output_of}
 use Rattle.fe_desk.specs.Runs.{AreSilent}
 use Rattle.fe_desk.specs.within.Desk.{ArePlaces, IsSilentFrom, client_of}
 use Rattle.fe_desk.proofs.Silence.{outs_of, none_written, anew_silent}

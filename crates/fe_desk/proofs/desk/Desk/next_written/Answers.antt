@@ -1,7 +1,7 @@
 use Rattle.std.proofs.Common.{◌≡◌, ◌-◌, ◌≤◌, drop, take_all, length, map, subst, arith, rules}
 use Rattle.std.proofs.lemmas.List.{length-drop, length-map}
 use Rattle.fe_desk.specs.Crash.{DeskState}
-use Rattle.fe_desk.specs.DeskRunState.{output_of}
+use Rattle.fe_desk.proofs.Outputs.{output_of}
 use Rattle.fe_desk.specs.Messages.{outputs}
 use Rattle.fe_desk.specs.Runs.{AreSilent, IsNextWritten}
 use Rattle.fe_desk.specs.within.Desk.{client_of}

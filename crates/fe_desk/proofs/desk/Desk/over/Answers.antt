@@ -2,7 +2,7 @@ use Rattle.std.proofs.Common.{false, true≢false, None, List, refl, sym, ap, su
 use Rattle.fe_front.specs.Front.{IsFirst}
 use Rattle.fe_desk.specs.declared.handed.Handed.TheVariants.{Nothing}
 use Rattle.fe_desk.specs.declared.desk_inner.DeskInner.{DeskInner}
-use Rattle.fe_desk.specs.DeskRunState.{output_of}
+use Rattle.fe_desk.proofs.Outputs.{output_of}
 use Rattle.fe_desk.specs.declared.port.Port.{Port}
 use Rattle.fe_desk.specs.within.Desk.{IsSilentFrom, client_of, desk_of}
 use Rattle.fe_desk.proofs.Answering.{first_acknowledged}

@@ -21,7 +21,7 @@ returns-in-Ok-clause-goes g c =
     act_at c.in-Connect.is (act_still {k = g.D.Disk} g.met.D.Disk.only_now c.requires.ready e.stays c.in-Ok.ensures.connected e.stays.store.keeper)
 
 pub returns-in-Bytes-clause-goes : goal.returns-in-Bytes-clause-goes
-returns-in-Bytes-clause-goes g c = act_at c.in-Bytes.is (act_bytes c.in-Bytes.conn c.in-Bytes.piece c.as_slice.result.now c.as_slice.ensures.value c.bytes.ensures.outputs c.bytes.ensures.goes)
+returns-in-Bytes-clause-goes g c = act_at c.in-Bytes.is (act_bytes c.in-Bytes.conn c.in-Bytes.piece c.as_slice.result.now c.as_slice.ensures.value c.bytes.ensures.goes)
 
 pub returns-in-Gone-clause-goes : goal.returns-in-Gone-clause-goes
 returns-in-Gone-clause-goes g c =

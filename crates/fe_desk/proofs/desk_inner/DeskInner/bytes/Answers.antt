@@ -1,32 +1,25 @@
 use Rattle.std.proofs.Common.{◌≡◌, map, List, Bool, true, false, inl, inr, Err, refl, sym, ap, subst, ◌∙◌, slice_set}
 use Rattle.fe_memory.specs.Memory.{out_of_memory}
 use Rattle.fe_wire.specs.Stream.{Decoding, CompletesMessage}
-use Rattle.fe_desk.specs.Messages.{outputs}
-use Rattle.fe_desk.specs.DeskRunState.{Client, DeskRunState}
+use Rattle.fe_desk.specs.DeskRunState.{Client}
 use Rattle.fe_desk.specs.Steps.{after_frame}
 use Rattle.fe_desk.specs.declared.fault.DeskFault.TheVariants.{NoMemory}
 use Rattle.fe_desk.specs.within.Desk.{client_of, desk_of, run_state_of}
-use Rattle.fe_desk.specs.within.Goes.{GoesPiece, TakesStream, LeavesStream, StopsStream}
+use Rattle.fe_desk.specs.Ends.{StopsShort}
+use Rattle.fe_desk.specs.within.Goes.{GoesPiece, TakesStream, StopsStream}
 use Rattle.fe_desk.proofs.Goes.{stays_itself, unread, piece_done, piece_short, piece_faulty, then, before}
 use Rattle.fe_desk.proofs.Places.{port_changed}
 use Rattle.fe_desk.proofs.Leftovers.{left_here}
-use Rattle.fe_desk.proofs.Pieces.{relieves, has_fed, all_taken, port_same, port_reads, fed_place, desk_reads, reading, gone_outputs, stream_unknown, stream_left, stream_off, stream_unread, stream_more, stream_all, fed_outputs, fed_stops, left_outputs}
+use Rattle.fe_desk.proofs.Pieces.{relieves, has_fed, all_taken, port_same, port_reads, fed_place, desk_reads, reading, stream_unknown, stream_off, stream_unread, stream_all, fed_stops}
 use Rattle.fe_desk.proofs.desk_inner.DeskInner.bytes.Goals as goal
 
 pub returns-in_default-clause-goes : goal.returns-in_default-clause-goes
 returns-in_default-clause-goes g c =
     unread {k = g.D.Disk} g.met.D.Disk.only_now c.requires.ready (stream_unknown (run_state_of c.args.self.now) c.args.conn c.args.piece.now c.in_default.ensures.none)
 
-pub returns-in-Err-clause-outputs : goal.returns-in-Err-clause-outputs
-returns-in-Err-clause-outputs g c = left_outputs c.args.conn (run_state_of c.args.self.now) (run_state_of c.take_left.new.self) c.take_left.ensures.clients
-
 pub returns-in-Err-clause-goes : goal.returns-in-Err-clause-goes
 returns-in-Err-clause-goes g c =
-    let is = relieves (run_state_of c.args.self.now) (run_state_of c.take_left.new.self) c.args.conn c.in-Some.at c.in-Some.ensures.place c.take_left.ensures.clients in
-    piece_faulty false c.desk_fault.ensures (λ some. stream_left c.args.piece.now is some) (λ last stops. inl stops) c.in-Err.ensures.goes
-
-pub returns-then-not-connected-clause-outputs : goal.returns-then-not-connected-clause-outputs
-returns-then-not-connected-clause-outputs g c = left_outputs c.args.conn (run_state_of c.args.self.now) (run_state_of c.take_left.new.self) c.take_left.ensures.clients
+    piece_faulty false c.desk_fault.ensures (λ stops. inl stops) (λ last stops. inl stops) c.in-Err.ensures.goes
 
 pub returns-then-not-connected-clause-goes : goal.returns-then-not-connected-clause-goes
 returns-then-not-connected-clause-goes g c =
@@ -55,10 +48,9 @@ returns-in-Err-feed g c =
     subst (λ (d : Decoding). CompletesMessage d piece) (port_reads piece is ports c.in-Some.at p refl c.take_left.ensures.place c.index_mut.ensures.value) c.in-Err-feed.ensures.memory in
     record {
       places = c.find.ensures.places;
-      outputs = subst (λ (cs : List Client). outputs (record b.run_state { clients = cs }) ≡ outputs s) same (left_outputs conn s b.run_state c.take_left.ensures.clients);
       goes =
           subst
-          (λ (cs : List Client). GoesPiece g.D.Disk (TakesStream s conn piece) (LeavesStream s conn piece) (StopsStream s conn piece) (Err (NoMemory out_of_memory false)) (desk_of c.args.self.now)
+          (λ (cs : List Client). GoesPiece g.D.Disk (TakesStream s conn piece) (λ fed t. StopsShort fed s conn piece t) (StopsStream s conn piece) (Err (NoMemory out_of_memory false)) (desk_of c.args.self.now)
           (record b { run_state = record b.run_state { clients = cs } })) same
           (piece_short goes (stream_unread piece is goes.ends.1 (sym c.connected.ensures ∙ c.if-not-connected.false) completes));
     }
@@ -93,9 +85,8 @@ returns-in-Err-take_left g c =
     c.take_left.ensures.place c.index_mut.ensures.value c.in-Ok.ensures.reads c.in-Ok.ensures.client in
     record {
       places = c.find.ensures.places;
-      outputs = left_outputs c.args.conn m n c.take_left-2.ensures.clients ∙ fed_outputs fed;
       goes =
-          piece_faulty true c.desk_fault-in-Err-take_left.ensures (λ some. stream_more fed n c.take_left-2.ensures.clients c.take_left-2.ensures.rest some) (λ last stops. inr (fed_stops fed last stops))
+          piece_faulty true c.desk_fault-in-Err-take_left.ensures (λ stops. fed_stops fed n stops) (λ last stops. inr (fed_stops fed last stops))
           (then goes (before goes.ends.0.fine.after (record { keeper = refl; groups = refl; synced = refl }) refl c.in-Err-take_left.ensures.goes));
     }
 
@@ -115,7 +106,6 @@ returns-then-bad g c =
     let gone : run_state_of c.leave.new.self ≡ after_frame c.feed.new.self.decoder.is_bad n c.args.conn = c.leave.ensures.gone ∙ ap (λ (x : Bool). after_frame x n c.args.conn) (sym bad) in
     record {
       places = c.find.ensures.places;
-      outputs = ap (λ (t : DeskRunState). outputs t) c.leave.ensures.gone ∙ gone_outputs n c.args.conn ∙ left_outputs c.args.conn m n c.take_left-2.ensures.clients ∙ fed_outputs fed;
       goes =
           piece_done (then goes (before goes.ends.0.fine.after (record { keeper = refl; groups = refl; synced = refl }) refl rest))
           c.leave.ensures.stays (stream_all fed n (run_state_of c.leave.new.self) rest.ends.1 gone);
@@ -136,7 +126,6 @@ returns-else-bad g c =
     let bad : c.feed.new.self.decoder.is_bad ≡ false = sym c.in-Ok.ensures.bad ∙ c.if-bad.false in
     record {
       places = c.find.ensures.places;
-      outputs = left_outputs c.args.conn m n c.take_left-2.ensures.clients ∙ fed_outputs fed;
       goes =
           piece_done (then goes (before goes.ends.0.fine.after (record { keeper = refl; groups = refl; synced = refl }) refl rest)) stays_itself
           (stream_all fed n n rest.ends.1 (ap (λ (x : Bool). after_frame x n c.args.conn) (sym bad)));

@@ -1,5 +1,6 @@
 use Rattle.std.proofs.Common.{None, true, false, sym, ap, ◌∙◌}
-use Rattle.fe_desk.specs.DeskRunState.{DeskRunState, made}
+use Rattle.fe_desk.specs.DeskRunState.{DeskRunState}
+use Rattle.fe_desk.specs.Room.{made}
 use Rattle.fe_desk.specs.within.Desk.{run_state_of}
 use Rattle.fe_desk.proofs.Connecting.{making_stays}
 use Rattle.fe_desk.proofs.Making.{begun_by}

@@ -1,9 +1,9 @@
 use Rattle.std.proofs.Common.{◌≡◌, inl, inr, ℕ, Some, None, true, false, sym, ap, ◌∙◌}
 use Rattle.std.specs.Prelude.{Result, Ok}
 use Rattle.fe_front.specs.Front.{has_room}
-use Rattle.fe_desk.specs.DeskRunState.{DeskRunState, made, committed, cleared, begun_room, roomy, with_room}
+use Rattle.fe_desk.specs.DeskRunState.{DeskRunState, cleared}
+use Rattle.fe_desk.specs.Room.{MayBegin, StopsMaking, begun_room, made, room_begun, roomy, with_room}
 use Rattle.fe_desk.specs.DeskRunState as way
-use Rattle.fe_desk.specs.Ends.{MayBegin, StopsMaking, room_begun}
 use Rattle.fe_desk.specs.Crash.{DeskState}
 use Rattle.fe_desk.specs.within.Desk.{run_state_of}
 use Rattle.fe_desk.specs.within.Goes.{GoesTo, WasBegun}
@@ -11,6 +11,7 @@ use Rattle.fe_disk.specs.declared.disk.Disk.{Ghosts}
 use Rattle.fe_keeper.specs.declared.fault.Fault.{Fault}
 use Rattle.fe_desk.proofs.Connecting.{making_stays}
 use Rattle.fe_desk.proofs.Making.{committed_room, room_by}
+use Rattle.fe_desk.proofs.Reading.{committed}
 use Rattle.fe_desk.proofs.Stops.{made_alike, stops_room}
 use Rattle.fe_desk.proofs.Goes.{passed_on, then, before, after, done, weaker_on}
 use Rattle.fe_desk.proofs.desk_inner.DeskInner.make_room.Goals as goal

@@ -1,7 +1,6 @@
 use Rattle.std.proofs.Common.{refl, sym, ap, subst}
 use Rattle.fe_desk.specs.declared.handed.Handed.{Handed}
-use Rattle.fe_desk.specs.Crash.{with_handed}
-use Rattle.fe_desk.specs.within.Desk.{IsHanded, desk_of, run_state_of}
+use Rattle.fe_desk.specs.within.Desk.{IsHanded, desk_of, run_state_of, with_handed}
 use Rattle.fe_desk.proofs.Advancing.{desk_as}
 use Rattle.fe_front.proofs.Coming.{none-posted}
 use Rattle.fe_desk.proofs.Goes.{stays_same}

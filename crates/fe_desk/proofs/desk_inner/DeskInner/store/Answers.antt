@@ -1,8 +1,7 @@
 use Rattle.std.proofs.Common.{◌≡◌, sym, ap, subst, ◌∙◌}
 use Rattle.fe_desk.specs.declared.handed.Handed.{Handed}
-use Rattle.fe_desk.specs.DeskRunState.{handing, stored}
-use Rattle.fe_desk.specs.Crash.{with_handed}
-use Rattle.fe_desk.specs.within.Desk.{IsReady, desk_of, run_state_of}
+use Rattle.fe_desk.specs.DeskRunState.{stored}
+use Rattle.fe_desk.specs.within.Desk.{IsReady, desk_of, run_state_of, with_handed, handing}
 use Rattle.fe_desk.specs.within.Goes.{Goes, Is, IsUnstored}
 use Rattle.fe_desk.proofs.Groups.{not_cut}
 use Rattle.fe_desk.proofs.Goes.{stays, stays_same}

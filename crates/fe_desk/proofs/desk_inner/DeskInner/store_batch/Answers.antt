@@ -6,11 +6,9 @@ use Rattle.fe_state.specs.declared.batch.Batch.{Batch}
 use Rattle.fe_keeper.specs.declared.fault.Fault.{Fault}
 use Rattle.fe_keeper.specs.declared.fault.Fault.TheVariants.{Device}
 use Rattle.fe_desk.specs.declared.handed.Handed.TheVariants.{Cut, Stored}
-use Rattle.fe_desk.specs.DeskRunState.{handing}
-use Rattle.fe_desk.specs.Crash.{with_handed}
 use Rattle.fe_desk.specs.within.Goes.{Faults, Is, IsUnstored}
 use Rattle.fe_desk.proofs.Goes.{unstored}
-use Rattle.fe_desk.specs.within.Desk.{desk_of, run_state_of, IsAhead}
+use Rattle.fe_desk.specs.within.Desk.{desk_of, run_state_of, IsAhead, with_handed, handing}
 use Rattle.fe_desk.proofs.Growing.{stores_one, handed_back}
 use Rattle.fe_desk.proofs.Groups.{legal_both, tied_stored, tied_cut, pushed, unpushed, popped, advances_group, begins_there, no_mismatch, desk_stored, desk_torn}
 use Rattle.fe_desk.proofs.Failing.{short_given, device_fault, only_device}

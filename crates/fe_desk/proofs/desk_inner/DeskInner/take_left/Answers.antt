@@ -6,8 +6,8 @@ use Rattle.fe_wire.specs.declared.client_message.ClientMessage.{ClientMessage}
 use Rattle.fe_desk.proofs.Places.{found_there, port_changed}
 use Rattle.fe_desk.specs.Steps.{find}
 use Rattle.fe_desk.proofs.Reading.{left_among, relieved}
-use Rattle.fe_desk.proofs.Leftovers.{going_first, going_on, taken_still, taken_all, clients_then, rest_then, place_as, some_left, left_here, port_next, desk_enters, none_left_here, fewer_left}
-use Rattle.fe_desk.proofs.Stops.{first_stops, first_tears, room_keeps, roomy_stops}
+use Rattle.fe_desk.proofs.Leftovers.{going_first, going_on, taken_all, clients_then, place_as, some_left, left_here, port_next, desk_enters, none_left_here, fewer_left}
+use Rattle.fe_desk.proofs.Stops.{first_stops, first_tears, room_keeps}
 use Rattle.fe_desk.proofs.Goes.{then, passed, done}
 use Rattle.fe_desk.proofs.desk_inner.DeskInner.take_left.Goals as goal
 
@@ -80,13 +80,6 @@ pub returns-clause-clients : goal.returns-clause-clients
 returns-clause-clients g c =
     clients_then c.args.conn (run_state_of c.args.self.now) (run_state_of c.loop-self.self) (run_state_of c.loop-self.self) refl c.loop-self.invariant.taken
 
-pub returns-in_err-make_room-clause-rest : goal.returns-in_err-make_room-clause-rest
-returns-in_err-make_room-clause-rest g c =
-    rest_then c.args.conn (run_state_of c.args.self.now) (run_state_of c.loop-self.self) (run_state_of c.make_room.new.self) (room_keeps c.args.conn _ c.in_err-make_room.ensures.goes) c.loop-self.invariant.taken
-
-pub returns-clause-rest : goal.returns-clause-rest
-returns-clause-rest g c = c.loop-self.invariant.taken.rest
-
 pub returns-in_err-make_room-clause-goes : goal.returns-in_err-make_room-clause-goes
 returns-in_err-make_room-clause-goes g c =
     let old = desk_of c.args.self.now in
@@ -97,11 +90,7 @@ returns-in_err-make_room-clause-goes g c =
     let some = some_left c.loop-self.self.trace.ports.items c.args.conn c.args.at c.index.result.now _ going.place c.index.ensures c.has_left.ensures c.loop-self-test.true in
     then going.goes
     (passed c.from_residual.ensures.1
-    (λ short. record {
-      stops = first_stops c.args.conn old.run_state a.run_state u.run_state some clients short.until short.at_hand going.taken;
-      still = subst (λ (cs : List Client). 0 < length (left_among (find c.args.conn cs))) (sym clients) some;
-      again = taken_still c.args.conn old.run_state a.run_state u.run_state some (roomy_stops a.run_state u.run_state c.args.conn going.goes.desk.tied.handed short.until) clients going.taken;
-    })
+    (λ short. first_stops c.args.conn old.run_state a.run_state u.run_state some clients short.until short.at_hand going.taken)
     (λ last stops tears. first_tears c.args.conn old.run_state a.run_state last u some clients stops going.taken tears) c.in_err-make_room.ensures.goes)
 
 pub returns-clause-goes : goal.returns-clause-goes

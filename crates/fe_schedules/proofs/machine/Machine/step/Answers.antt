@@ -8,7 +8,7 @@ use Rattle.fe_desk.proofs.Stepping.{ends_of}
 use Rattle.fe_schedules.specs.Schedule.{TellsDisk}
 use Rattle.fe_schedules.specs.Ready.{memory_model}
 use Rattle.fe_schedules.specs.Runs.{last_of}
-use Rattle.fe_schedules.proofs.Readiness.{ready_after, step_tells, tells_of}
+use Rattle.fe_schedules.proofs.Readiness.{ready_after, step_tells}
 use Rattle.fe_schedules.proofs.machine.Machine.step.Goals as goal
 
 pub returns-in-Ok-clause-moved : goal.returns-in-Ok-clause-moved
@@ -34,6 +34,5 @@ returns-in-Err-clause-fault c =
     let new = c.step.new.self in
     let ready = c.requires.ready in
     subst (λ (lost : Option MemoryState). TellsDisk (last_of lost (disk_of new)) c.of_desk.result) (sym c.requires.lost)
-    (step_tells old new c.in-Err.fault c.of_desk.result ready.calm c.of_desk.ensures
-    (tells_of memory_model old c.args.step.now new c.in-Err.fault
-    (ends_of memory_model old c.args.step.now new (Err c.in-Err.fault) ready.works c.in-Err.ensures.is_step)))
+    (step_tells old new c.args.step.now c.in-Err.fault c.of_desk.result ready.calm c.of_desk.ensures
+    (ends_of memory_model old c.args.step.now new (Err c.in-Err.fault) ready.works c.in-Err.ensures.is_step))
