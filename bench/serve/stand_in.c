@@ -9,6 +9,7 @@
 #define _GNU_SOURCE
 #include "stand_in_store.h"
 
+#include <poll.h>
 #include <pthread.h>
 #include <signal.h>
 #include <stdbool.h>
@@ -330,7 +331,9 @@ static void *reading(void *given) {
   connection *line = &connections[own];
   uint8_t bytes[8192];
   size_t count = 0;
+  struct pollfd waited = {.fd = line->descriptor, .events = POLLIN};
   for (;;) {
+    poll(&waited, 1, -1); /* unlike a wait in recv, this does not end when the client takes a reply */
     ssize_t size = recv(line->descriptor, bytes + count, sizeof bytes - count, 0);
     if (size <= 0) break;
     count += (size_t)size;

@@ -65,6 +65,7 @@ EDGES = {
     "leaves_name_beside": ("ends.ready_socket",), "takes_anything_beside": ("ends.beside_another",),
     "stacks_of_128_megabytes": ("faults.little_memory",), "closed_streams_not_held": ("calls.closed_streams",),
     "leaves_new_store": ("files.left_over",), "waits_a_minute_for_a_reader": ("crowds.never_reads",),
+    "waits_in_reads": ("counts.taken_replies",),
 }
 WRONG = {**DISKS, **EDGES}
 # Bodies that no check notices, and why.

@@ -6,6 +6,7 @@ import os
 import platform
 import re
 import resource
+import select
 import shutil
 import struct
 import subprocess
@@ -15,12 +16,12 @@ from pathlib import Path
 from . import wire
 from .clients import output_of
 from .constants import INSTRUCTIONS_WITHIN, MOST_CALLS, MOST_FUTEX
-from .crowds import adding, made
+from .crowds import adding, made, runs_of
 from .harness import HERE, Held, Server, Skipped, compiler, holds, preload, same, until, within
 from .texts import TOP, text_of
 
 # The numbers of the calls on x86-64, the program's only target.
-CALLS = {"pwrite": 18, "send": 44, "receive": 45, "sync": 75, "size": 8, "name": 89, "futex": 202, "accept": 288, "sleep": 230, "nap": 35}
+CALLS = {"pwrite": 18, "send": 44, "receive": 45, "wait": 7, "sync": 75, "size": 8, "name": 89, "futex": 202, "accept": 288, "sleep": 230, "nap": 35}
 OTHERS = ()  # those that are not counted
 
 
@@ -86,7 +87,7 @@ def lone(conn, first, count):
 
 
 def lone_calls(place):
-    """each of a thousand lone calls takes a receive, a send, two writes, two syncs and one look at the file, of two calls; and at most 18 calls in all, 9 of them futex; none sleeps"""
+    """each of a thousand lone calls takes a wait (`poll`), a receive, a send, two writes, two syncs and one look at the file, of two calls; and at most 18 calls in all, 9 of them futex; none sleeps"""
     counted = Counted(place)
     server = Server(place).start()
     made(server, (b"counter", 1, 1))
@@ -101,10 +102,37 @@ def lone_calls(place):
             same([found[kind] for kind in ("pwrite", "sync")], [2 * entries] * 2, name)
             # (`clock_nanosleep` and `nanosleep`)
             same((found["sleep"], found["nap"]), (0, 0), name)
-            # (the next receive may have begun)
-            holds(found["receive"] in (entries - 1, entries), name)
+            same(found["receive"], entries, name)
+            # (the first wait may have begun before, and the next one may have begun)
+            holds(abs(found["wait"] - entries) <= 1, name)
             holds(found["futex"] <= MOST_FUTEX * entries and found["all"] <= MOST_CALLS * entries, name)
     return f"{found['futex'] / entries:.1f} futex calls, {found['all'] / entries:.1f} in all"
+
+
+def taken_replies(place):
+    """no thread of the server wakes when a client takes its reply"""
+    server = Server(place).start()
+    made(server, (b"counter", 1, 1))
+    with server.attached(7) as conn:
+        for number in range(1, 21):
+            conn.send(wire.call(number, adding(1, 0, 1)))
+            holds(select.select([conn.socket], [], [], 20)[0], "no reply came")
+            before = asleep(server)
+            same(conn.reply(), ("answer", number, ("value", number - 1)))
+            same(asleep(server), before, "how often each thread ran")
+
+
+def asleep(server):
+    """How often each thread of the server has run, once all of them sleep."""
+    found = []
+
+    def sleeps():
+        found[:] = [runs_of(server)]
+        states = [Path(f"/proc/{server.process.pid}/task/{thread}/stat").read_text("utf-8").rsplit(")", 1)[1].split()[0] for thread in found[0]]
+        return set(states) == {"S"} and runs_of(server) == found[0]
+
+    until(sleeps, 20, "all threads sleep")
+    return found[0]
 
 
 CLIENTS, WINDOWS = 48, 6

@@ -6,12 +6,18 @@ ghost use Rattle.std.specs.Prelude.{◌≡◌, []};
 use crate::byte_log::ByteLog;
 use crate::sides::HangUp;
 use crate::stream::{StreamRead, StreamWrite};
+use libc::net::{POLLIN, poll};
+use libc::types::pollfd;
 use std::alloc::Global;
 use std::io;
 use std::io::{Read, Write};
 use std::net::Shutdown;
+use std::os::fd::AsRawFd;
 use std::os::unix::net::{UnixListener, UnixStream};
 use std::sync::Arc;
+
+/// The time limit of a `poll` that has none.
+const FOREVER: i32 = -1;
 
 /// The stream of a client. By itself it can be ended, and asked whether it has ended.
 #[derive(Drop)]
@@ -30,6 +36,19 @@ impl ClientSocket {
     pub(crate) fn shut(&self) {
         let _ = self.stream.shutdown(Shutdown::Both);
     }
+
+    /// Waits until its stream has bytes to read, or has ended. A signal ends the wait too.
+    ///
+    /// A thread that waits in a read is woken each time that the client takes a reply, since its socket has
+    /// room again then; one that waits here is not.
+    fn await_bytes(&self) {
+        let mut waited = [pollfd {
+            fd: self.stream.as_raw_fd(),
+            events: POLLIN,
+            revents: 0,
+        }];
+        let _ = poll(&mut waited, FOREVER);
+    }
 }
 
 impl HangUp for ClientSocket {
@@ -46,6 +65,7 @@ pub(crate) struct SocketReader {
 
 impl Read for SocketReader {
     fn read(&mut self, buf: &mut [u8]) -> io::Result<usize> {
+        self.socket.await_bytes();
         let mut stream = &self.socket.stream;
         stream.read(buf)
     }
