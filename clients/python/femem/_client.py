@@ -18,7 +18,7 @@ from . import _errors as errors, _registry as registry, _worker as worker, reque
 from ._arguments import DEFAULT, Choice, Key, Timeout, numbers, request_of
 from ._calls import Asking, Calls, Concatenate, ForThreads, P
 from ._core import Core
-from ._holdings import ACCESS
+from ._frames import ACCESSES
 from ._jobs import Batch, Job, Last, Present, T, Ticket, Wait, result_of
 from .requests import Request
 from ._worker import Worker
@@ -205,7 +205,7 @@ class Client(Calls, ForThreads):
                         break
                     step = steps.send(None)
                     continue
-                if step.key is not None or step.requests[0].frame[4] not in ACCESS:
+                if step.key is not None or step.requests[0].frame[4] not in ACCESSES:
                     break  # (what mends a job knows words)
                 tickets: List[Ticket[Any]] = [*map(Ticket, step.requests)]
                 if step.seconds is not None:

@@ -19,8 +19,9 @@ LONGEST_REPORT = 262_144
 
 READFE, READFF, READXX, WRITEEF, WRITEFF, WRITEXF, PURGE, INT_FETCH_ADD = range(16, 24)
 
-# The kind of an access, and of one that does not wait.
+# The kind of an access, and of one that does not wait: they have an operation, an array and an index.
 ACCESS, NOWAIT = 5, 11
+ACCESSES = (ACCESS, NOWAIT)
 
 VALUE, DONE, ARRAY, NO_ARRAY, BAD_INDEX = 1, 2, 3, 4, 5
 NAME_TAKEN, ARRAY_LIMIT, WORD_LIMIT, BAD_NAME, BAD_LENGTH, NOT_NOW = 6, 7, 8, 9, 10, 11

@@ -5,12 +5,10 @@ from __future__ import annotations
 from typing import Dict, List, Optional, Sequence, Set, Tuple
 
 from ._errors import NotNow
+from ._frames import ACCESSES
 from ._jobs import Steps, batch
 from .requests import Array, look
 from ._sessionfile import SessionFile
-
-# The words of the kinds of access that a session file may have under a key: where a frame has its array and index.
-ACCESS = (5, 11)
 
 
 class Leftovers:
@@ -57,7 +55,7 @@ class Leftovers:
         if not self._found.get(array.id):
             return []
         kept = [file.kept(key) for key in file.keys()] if file is not None else []
-        frames = [each[0] for each in kept if each is not None and each[0][4] in ACCESS]
+        frames = [each[0] for each in kept if each is not None and each[0][4] in ACCESSES]
         its = [frame for frame in frames if int.from_bytes(frame[14:22], "big") == array.id]
         keyed = {int.from_bytes(frame[22:26], "big") for frame in its}
         return [word for word in words if word not in keyed and self.take(array, word)]

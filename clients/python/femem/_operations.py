@@ -189,7 +189,7 @@ class Absence:
 def done_at(asked: Sequence[Ticket[Any]], code: int, array: Optional[Array] = None) -> List[int]:
     """The words, of this array or of any, at which such an operation, of these requests, has happened."""
     done = [each.request.frame for each in asked if each.done and each.error is None]
-    its = [frame for frame in done if frame[4] in (frames.ACCESS, frames.NOWAIT) and frame[13] == code]
+    its = [frame for frame in done if frame[4] in frames.ACCESSES and frame[13] == code]
     return [int.from_bytes(frame[22:26], "big") for frame in its if array is None or int.from_bytes(frame[14:22], "big") == array.id]
 
 
@@ -245,7 +245,7 @@ class Tries:
         if known is None:
             return None
         frame, answer = known
-        if frame[4] not in (5, 11) or (frame[13], int.from_bytes(frame[26:34], "big")) != (self._code, self._value):
+        if frame[4] not in frames.ACCESSES or (frame[13], int.from_bytes(frame[26:34], "big")) != (self._code, self._value):
             raise ValueError(f"another request was asked under the key {self.key!r}")
         if answer.code == (frames.VALUE if self._code == frames.READFE else frames.DONE):
             self.value = answer.value

@@ -77,7 +77,7 @@ def check_request(frame: bytes) -> None:
     _must(len(frame) >= 13, "a request that is too short")
     kind = frame[4]
     _must(_LENGTHS.get(kind, 0) + 4 == len(frame) == 4 + int.from_bytes(frame[:4], "big"), "a request of no kind")
-    _must(kind not in (frames.ACCESS, frames.NOWAIT), "a request of no operation, or with an operand that is not used")
+    _must(kind not in frames.ACCESSES, "a request of no operation, or with an operand that is not used")
     _must(not any(frame[5:13]), "a request with a number")
     if kind != 4:
         row = 16 if kind in (2, 3) else 32

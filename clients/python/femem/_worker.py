@@ -32,8 +32,6 @@ _CONNECT_TIME = 1.0  # how long an attempt to connect may take, in seconds
 
 _READ_BYTES = 65536
 
-_TIMEVAL = struct.Struct("@ll")
-
 # How long the thread waits at its bell after the last answer, in seconds, before it looks at the connection again. The bell
 # is a lock, the cheapest way to wake a thread, and a caller that just got an answer often calls again soon.
 _LINGER = 0.01
@@ -47,8 +45,6 @@ _IN_A_ROW = 4
 # How long after an event the thread checks what is due by the clock, in seconds: sooner than anything that the event can
 # make due, except what the core calls urgent.
 _LOOK_AFTER = 0.02
-
-_IN_AND_OUT = select.POLLIN | select.POLLOUT
 
 
 class Worker(Carrier):
@@ -219,7 +215,7 @@ class Worker(Carrier):
             connection.connect(self.path)
             # Blocking, since callers read too; the thread itself never waits here.
             connection.settimeout(None)
-            connection.setsockopt(socket.SOL_SOCKET, socket.SO_RCVTIMEO, _TIMEVAL.pack(0, int(1e6 * READ_TIME)))
+            connection.setsockopt(socket.SOL_SOCKET, socket.SO_RCVTIMEO, struct.pack("@ll", 0, int(1e6 * READ_TIME)))
         except OSError as error:  # also: too many files are open
             if connection is not None:
                 connection.close()
@@ -244,7 +240,7 @@ class Worker(Carrier):
         events = select.POLLIN
         self._poll.register(connection, events)
         while stands and self._tick():
-            wanted = _IN_AND_OUT if core.to_send else select.POLLIN
+            wanted = select.POLLIN | select.POLLOUT if core.to_send else select.POLLIN
             if wanted != events:
                 events = wanted
                 self._poll.modify(connection, events)

@@ -96,19 +96,15 @@ class Block:
 
     def __init__(self, client: Client) -> None:
         self._client = client
-        self._job: Optional[Job[None]] = None
-        # Set from when it is entered until its `__exit__` has begun.
-        self.watch: Optional[weakref.ref[Any]] = None
-
-    def begins(self, leave: Callable[..., None], job: Job[None]) -> None:
-        self._job = job
-        self.watch = weakref.ref(leave, self._is_dropped)
+        self.ends: Optional[Job[None]] = None  # the job, from when the block is entered
+        self.watch: Optional[weakref.ref[Any]] = None  # notices that the `__exit__` is dropped, until that has begun
 
     def job(self) -> Optional[Job[None]]:
         """The job, if it is still to be begun."""
-        return None if self._job is None or self._job.taken or self._job.is_here else self._job
+        return None if self.ends is None or self.ends.taken or self.ends.is_here else self.ends
 
-    def _is_dropped(self, leave: object) -> None:
+    def is_dropped(self, leave: object) -> None:
+        self.watch = None  # nothing holds itself
         job = self.job()
         if job is not None:
             self._client._abandon(job)
@@ -120,8 +116,10 @@ class Exit:
     def __get__(self, pattern: Optional[Entered], kind: Any = None) -> Callable[..., None]:
         if pattern is None:
             return kind._exit  # type: ignore[no-any-return]
-        leave = functools.partial(pattern._exit, block=Block(pattern._client))
-        pattern.__dict__.setdefault("_entering", {})[get_ident()] = weakref.ref(leave)
+        block = Block(pattern._client)
+        leave = functools.partial(pattern._exit, block=block)
+        block.watch = weakref.ref(leave, block.is_dropped)
+        pattern.__dict__.setdefault("_entering", {})[get_ident()] = block
         return leave
 
 
@@ -129,15 +127,10 @@ class Entered(Blocking):
     """What has a `with` block, which is ended once, wherever it is interrupted."""
 
     __exit__ = Exit()
-    # The `__exit__` of the block that each thread is about to enter. Each pattern that has blocks gets its own.
-    _entering: Dict[int, weakref.ref[functools.partial[None]]] = {}
+    # The block that each thread is about to enter. Each pattern that has blocks gets its own.
+    _entering: Dict[int, Block] = {}
     # What ends the block, done or failed. One that was left before, or is none, ends what this client has.
     _end_of: Callable[[Optional[Block], bool], Job[None]]
-
-    def _entry(self) -> Optional[functools.partial[None]]:
-        """The `__exit__` that Python has for the block that this thread enters."""
-        entering = self._entering.pop(get_ident(), None)
-        return None if entering is None else entering()
 
     def _exit(
         self, kind: Any, error: Any, trace: Any, block: Optional[Block] = None,
@@ -160,17 +153,17 @@ class Held(Entered):
 
     def __enter__(self: C) -> C:
         job = _job(self, self._operations["acquire"])
-        leave = self._entry()
+        block = self._entering.pop(get_ident(), None)
         try:
             self._client._run_job(job)
-            if leave is not None:
-                leave.keywords["block"].begins(leave, self._end_of(None, False))
+            if block is not None:
+                block.ends = self._end_of(None, False)
             return self
         except FememError:
             raise
         except BaseException:
-            if leave is not None:
-                leave.keywords["block"].watch = None
+            if block is not None:
+                block.watch = None
             self._client._abandon(job)
             raise
 
@@ -218,9 +211,9 @@ class Once(Blocking, words.Once):
 
 class WorkJob(Entered, work.WorkJob):
     def __enter__(self) -> WorkJob:
-        leave = self._entry()
-        if leave is not None:
-            leave.keywords["block"].begins(leave, self._end_of(None, False))
+        block = self._entering.pop(get_ident(), None)
+        if block is not None:
+            block.ends = self._end_of(None, False)
         return self
 
     def _end_of(self, block: Optional[Block], is_done: bool) -> Job[None]:

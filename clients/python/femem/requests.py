@@ -13,7 +13,7 @@ from typing import Any, Dict, Generic, SupportsIndex, Tuple, TypeVar, Union
 
 from . import _frames as frames
 from ._errors import ProtocolError, answered
-from ._frames import ACCESS, ARRAY, DONE, NOWAIT, VALUE, pack_access
+from ._frames import ACCESS, ACCESSES, ARRAY, DONE, NOWAIT, VALUE, pack_access
 
 __all__ = [
     "Array", "ArrayLike", "Request", "create", "find", "int_fetch_add", "purge", "readfe", "readff", "readxx", "remove",
@@ -205,16 +205,16 @@ def int_fetch_add(array: ArrayLike, index: int, value: int, nowait: bool = False
 def of_frame(frame: bytes) -> Request[Any]:
     """The request whose `Request.frame` this is."""
     kind = frame[4]
-    if kind in (5, 11):
+    if kind in ACCESSES:
         _, gives, may_wait = OPERATIONS[frame[13]]
-        return Request(frame, gives, may_wait and kind == 5)
+        return Request(frame, gives, may_wait and kind == ACCESS)
     return Request(frame, DONE if kind == 4 else ARRAY)
 
 
 @lru_cache(maxsize=256)
 def _in_words(frame: bytes) -> str:
     kind = frame[4]
-    if kind in (5, 11):
+    if kind in ACCESSES:
         array, index = int.from_bytes(frame[14:22], "big"), int.from_bytes(frame[22:26], "big")
         return f"{OPERATIONS[frame[13]][0]} {array} {index}"
     if kind == 4:
