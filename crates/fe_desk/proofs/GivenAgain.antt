@@ -398,7 +398,7 @@ lacks_owes {D} fed other d e lacks = absurd lacks
 -- ---- steps given until they are taken
 
 -- whatever the step comes to from where it stopped, it comes to as one step
-pub left_for_again : {D : Type 0} (fed : Bool) (x next : Step) (d e : DeskState D) (t : DeskRunState) → FindsNoMemory fed x d e → IsAgain fed x next → DeskStep e.run_state next t → DeskStep d.run_state x t
+left_for_again : {D : Type 0} (fed : Bool) (x next : Step) (d e : DeskState D) (t : DeskRunState) → FindsNoMemory fed x d e → IsAgain fed x next → DeskStep e.run_state next t → DeskStep d.run_state x t
 left_for_again fed x next d e t (inl owing) again h =
     let s : DeskRunState = d.run_state in
     let u : DeskRunState = e.run_state in

@@ -18,7 +18,6 @@ use Rattle.fe_desk.specs.within.Desk.{IsDesk, HasStore}
 use Rattle.fe_desk.specs.within.Goes.{ActEnds, GoesAct, HasEmptied}
 use Rattle.fe_desk.proofs.Advancing.{fine_as, fine_both}
 use Rattle.fe_desk.proofs.Feeding.{finds_tells, lacks_silent, tears_silent}
-use Rattle.fe_desk.proofs.GivenAgain.{left_for_again}
 use Rattle.fe_desk.proofs.Growing.{checks_as}
 use Rattle.fe_desk.proofs.StepParts.{stepped, stepped_owing, discharged_at}
 use Rattle.fe_desk.proofs.Writing.{owed_later}
@@ -59,7 +58,6 @@ module _ {D : Type 0} (k : Ghosts D) (x : Step) (a : DeskState D) where
   by_memory {b} fed finds silent sound = record {
     finds = finds;
     read = finds_tells fed x a b finds;
-    again = λ next t again h. left_for_again fed x next a b t finds again h;
     silent = silent;
     sound = sound;
   }

@@ -17,7 +17,6 @@ use Rattle.fe_desk.specs.declared.trace.Trace.{Trace}
 use Rattle.fe_mail.specs.Connections.{mails_on}
 use Rattle.fe_desk.specs.declared.step.Step.{Step}
 use Rattle.fe_desk.specs.Ends.{Checks, FindsNoMemory, TearsStep, discharged_desk, WritesSome}
-use Rattle.fe_desk.specs.GivenAgain.{IsAgain}
 use Rattle.fe_desk.specs.Steps.{Acts, DeskStep}
 use Rattle.fe_disk.specs.declared.disk.Disk.{Ghosts}
 use Rattle.fe_keeper.specs.Ends.{Works, Breaks}
@@ -98,14 +97,12 @@ pub record EndsOwing {D : Type 0} (model : Ghosts D) (old : DeskState D) (step :
   pub checked : Checks step old new
   pub sound : IsSound model old new
 
--- Memory was short for the step. The answer says what the step did and read; nothing of it is written; and
--- given again it comes to the same as one step.
+-- Memory was short for the step. The answer says what the step did and read, and nothing of it is written.
+-- Given again it comes to the same as one step: law `steps_are_given_again`, of `finds`.
 pub record EndsByMemory {D : Type 0} (model : Ghosts D) (fed : Bool) (old : DeskState D) (step : Step)
     (new : DeskState D) : Type 0 where
   pub finds : FindsNoMemory fed step old new
   pub read : TellsFed fed old.run_state step new.run_state
-  pub again : (next : Step) (u : DeskRunState) → IsAgain fed step next → DeskStep new.run_state next u
-      → DeskStep old.run_state step u
   pub silent : old.run_state.owes ≡ false → outputs new.run_state ≡ outputs old.run_state
   pub sound : IsSound model old new
 
