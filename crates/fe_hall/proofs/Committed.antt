@@ -16,8 +16,8 @@ use Rattle.fe_keeper.specs.Ends.{Rests, StopsLeave, Works, Breaks, Fails, ForBat
 use Rattle.fe_keeper.specs.Keeper.{KeeperState, StoreState, Progress, fits, must_begin, made_room, renewed, appended, finished_by}
 use Rattle.fe_keeper.specs.Stands.{LeavesPrefix, StandsFor, StandsForEither, EachStandsFor}
 use Rattle.fe_keeper.specs.declared.fault.Fault.{Fault}
-use Rattle.fe_keeper.specs.declared.fault.Fault.TheVariants.{Device, Failed, NoMemory, Mismatch, Damaged, Unformatted}
-use Rattle.fe_hall.proofs.Noted.{none_noted, both_noted, turn_noted}
+use Rattle.fe_keeper.specs.declared.fault.Fault.TheVariants.{Device, Failed, NoMemory, Mismatch}
+use Rattle.fe_hall.proofs.Noted.{none_noted, both_noted}
 use Rattle.fe_shared.specs.declared.shared.batches.Unposted.{Unposted}
 use Rattle.fe_shared.specs.declared.shared.batches.Unposted.TheVariants as unposted
 use Rattle.fe_hall.specs.Commits.{Append, AreAppends, AppendsAreNoted, HoldsSince, Commits, EndsAs, end_of, end_of_post}
@@ -75,9 +75,8 @@ take_whole groups n is = take_all n groups (omega (arith, is))
 -- one append for each group
 pub appends_length : {D : Type 0} (s : ServerState) (groups : List (List Entry)) (appends : List (Append D)) → AreAppends s groups appends → length appends ≡ length groups
 appends_length s [] [] are = refl
-appends_length s [] (append ∷ appends) are = absurd are
-appends_length s (group ∷ groups) [] are = absurd are
 appends_length s (group ∷ groups) (append ∷ appends) are = ap suc (appends_length (after_all s group) groups appends are.3)
+appends_length s _ _ are = absurd are
 
 -- appends after appends
 appends_both : {D : Type 0} (s t : ServerState) (groups more : List (List Entry)) (first second : List (Append D)) → t ≡ after_groups s groups → AreAppends s groups first → AreAppends t more second
@@ -90,7 +89,7 @@ appends_both s t (group ∷ groups) more (append ∷ appends) second is one two 
 
 module _ {D : Type 0} (model : Ghosts D) where
   -- what holds before the next append
-  holds_here : (begun : ServerState) (history : List (List Entry)) (n : ℕ) (here : D) (appends : List (Append D)) (last : D) → HoldsSince model begun history n here appends last
+  pub holds_here : (begun : ServerState) (history : List (List Entry)) (n : ℕ) (here : D) (appends : List (Append D)) (last : D) → HoldsSince model begun history n here appends last
       → LeavesOnly model here last (LeavesPrefix begun history n)
   holds_here begun history n here [] last holds = holds
   holds_here begun history n here (append ∷ appends) last holds = holds.0
@@ -160,30 +159,34 @@ module _ {D : Type 0} (model : Ghosts D) where
   either s entries image (inl before) = leaves_at s (entries ∷ []) 0 0 image s (omega arith) (omega arith) refl before
   either s entries image (inr after) = leaves_at s (entries ∷ []) 0 1 image (after_all s entries) (omega arith) (omega arith) refl after
 
-  -- a group was appended
-  pub commits_group : ((disk : D) (image : List ℕ) → model.honest disk → model.left_since disk (model.moment disk) image → model.may_leave disk image) → (old new : KeeperState D) (end : Option CommitEnd) (batch : Batch)
+  -- a group was appended, and the history notes it
+  pub group_noted : ((disk : D) (image : List ℕ) → model.honest disk → model.left_since disk (model.moment disk) image → model.may_leave disk image) → (old new : KeeperState D) (end : Option CommitEnd) (batch : Batch) (a b : List Act)
       → 1 ≤ length batch.entries → AreLegal old.state batch.entries → new.state ≡ after_all old.state batch.entries → new.store.has_failed ≡ old.store.has_failed → (model.honest new.store.disk ↔ model.honest old.store.disk)
       → (model.honest new.store.disk → new.store.has_failed ≡ false → EachStandsFor model new.store.disk new.state)
       → (model.honest old.store.disk → old.store.has_failed ≡ false → LeavesOnly model old.store.disk new.store.disk (StandsForEither old.state (after_all old.state batch.entries)))
-      → Commits model old new end
-  commits_group only_now old new end batch some legal state still honesty stands run = record {
-    groups = batch.entries ∷ [];
-    history = (omega (arith, some), legal, tt);
-    stored = 1;
-    all = inl refl;
-    state_is = state;
-    appends = record { batch = batch; before = old; after = new } ∷ [];
-    are_appends = (refl, state, refl, tt);
-    any_moment = λ h works.
-        let moments = run h works in (
-          weaker model old.store.disk new.store.disk (StandsForEither old.state (after_all old.state batch.entries)) (LeavesPrefix old.state (batch.entries ∷ []) 0)
-              (λ image two. either old.state batch.entries image two) moments,
-          omega arith,
-          moments.later,
-          started model new.store.disk (LeavesPrefix old.state (batch.entries ∷ []) 1)
-              (λ image left. leaves_at old.state (batch.entries ∷ []) 1 1 image new.state (omega arith) (omega arith) state (stands (honesty.1 h) (still ∙ works) image (only_now new.store.disk image (honesty.1 h) left))),
-        );
-  }
+      → AppendsAreNoted model (record { batch = batch; before = old; after = new } ∷ []) end a b
+      → (all : Commits model old new end) × AppendsAreNoted model all.appends end a b
+  group_noted only_now old new end batch a b some legal state still honesty stands run notes = (
+    record {
+      groups = batch.entries ∷ [];
+      history = (omega (arith, some), legal, tt);
+      stored = 1;
+      all = inl refl;
+      state_is = state;
+      appends = record { batch = batch; before = old; after = new } ∷ [];
+      are_appends = (refl, state, refl, tt);
+      any_moment = λ h works.
+          let moments = run h works in (
+            weaker model old.store.disk new.store.disk (StandsForEither old.state (after_all old.state batch.entries)) (LeavesPrefix old.state (batch.entries ∷ []) 0)
+                (λ image two. either old.state batch.entries image two) moments,
+            omega arith,
+            moments.later,
+            started model new.store.disk (LeavesPrefix old.state (batch.entries ∷ []) 1)
+                (λ image left. leaves_at old.state (batch.entries ∷ []) 1 1 image new.state (omega arith) (omega arith) state (stands (honesty.1 h) (still ∙ works) image (only_now new.store.disk image (honesty.1 h) left))),
+          );
+    },
+    notes,
+  )
 
   -- the device failed as a group was appended
   pub commits_torn : (old new : KeeperState D) (entries : List Entry) → 1 ≤ length entries → AreLegal old.state entries → new.state ≡ old.state
@@ -202,28 +205,32 @@ module _ {D : Type 0} (model : Ghosts D) where
         (λ image two. either old.state entries image two) (run h works);
   }
 
-  -- calls after calls
-  pub commits_both : (a b c : KeeperState D) (end : Option CommitEnd) → b.store.has_failed ≡ a.store.has_failed → (model.honest b.store.disk ↔ model.honest a.store.disk)
-      → Commits model a b None → Commits model b c end → Commits model a c end
-  commits_both a b c end works honesty ab bc = record {
-    groups = ab.groups ++ bc.groups;
-    history = history-append a.state ab.groups bc.groups ab.history (subst (λ (s : ServerState). IsHistory s bc.groups) reached bc.history);
-    stored = length ab.groups + bc.stored;
-    all =
-        let n = length-append ab.groups bc.groups in
-        ⊎_elim (λ (whole : bc.stored ≡ length bc.groups). inl (omega (arith, whole, n)))
-        (λ (torn : (bc.stored + 1 ≡ length bc.groups) × (end ≡ Some (Store Device))). let one = torn.0 in inr (omega (arith, one, n), torn.1)) bc.all;
-    state_is =
-        bc.state_is ∙ ap (λ (s : ServerState). after_groups s (take bc.stored bc.groups)) reached ∙ sym (after_behind a.state ab.groups bc.groups bc.stored);
-    appends = ab.appends ++ bc.appends;
-    are_appends =
-        subst (λ (gs : List (List Entry)). AreAppends a.state gs (ab.appends ++ bc.appends)) (sym (take_behind ab.groups bc.groups bc.stored))
-        (appends_both a.state b.state ab.groups (take bc.stored bc.groups) ab.appends bc.appends reached each bc.are_appends);
-    any_moment = λ h fine.
-        holds_both model a.state ab.groups bc.groups 0 a.store.disk ab.appends b.store.disk bc.appends c.store.disk (zero-add (length ab.appends) ∙ appends_length a.state ab.groups ab.appends each) (ab.any_moment h fine)
-        (holds_as model a.state (ab.groups ++ bc.groups) (length ab.groups + 0) (length ab.groups) b.store.disk bc.appends c.store.disk (omega arith)
-        (holds_behind model a.state ab.groups bc.groups b.state reached 0 b.store.disk bc.appends c.store.disk (bc.any_moment (honesty.1 h) (works ∙ fine))));
-  }
+  -- calls after calls, with the history
+  pub both_commits : (a b c : KeeperState D) (end : Option CommitEnd) (x y z : List Act) → b.store.has_failed ≡ a.store.has_failed → (model.honest b.store.disk ↔ model.honest a.store.disk)
+      → (ab : Commits model a b None) → AppendsAreNoted model ab.appends None x y → (bc : Commits model b c end) → AppendsAreNoted model bc.appends end y z
+      → (all : Commits model a c end) × AppendsAreNoted model all.appends end x z
+  both_commits a b c end x y z works honesty ab one bc two = (
+    record {
+      groups = ab.groups ++ bc.groups;
+      history = history-append a.state ab.groups bc.groups ab.history (subst (λ (s : ServerState). IsHistory s bc.groups) reached bc.history);
+      stored = length ab.groups + bc.stored;
+      all =
+          let n = length-append ab.groups bc.groups in
+          ⊎_elim (λ (whole : bc.stored ≡ length bc.groups). inl (omega (arith, whole, n)))
+          (λ (torn : (bc.stored + 1 ≡ length bc.groups) × (end ≡ Some (Store Device))). let one = torn.0 in inr (omega (arith, one, n), torn.1)) bc.all;
+      state_is =
+          bc.state_is ∙ ap (λ (s : ServerState). after_groups s (take bc.stored bc.groups)) reached ∙ sym (after_behind a.state ab.groups bc.groups bc.stored);
+      appends = ab.appends ++ bc.appends;
+      are_appends =
+          subst (λ (gs : List (List Entry)). AreAppends a.state gs (ab.appends ++ bc.appends)) (sym (take_behind ab.groups bc.groups bc.stored))
+          (appends_both a.state b.state ab.groups (take bc.stored bc.groups) ab.appends bc.appends reached each bc.are_appends);
+      any_moment = λ h fine.
+          holds_both model a.state ab.groups bc.groups 0 a.store.disk ab.appends b.store.disk bc.appends c.store.disk (zero-add (length ab.appends) ∙ appends_length a.state ab.groups ab.appends each) (ab.any_moment h fine)
+          (holds_as model a.state (ab.groups ++ bc.groups) (length ab.groups + 0) (length ab.groups) b.store.disk bc.appends c.store.disk (omega arith)
+          (holds_behind model a.state ab.groups bc.groups b.state reached 0 b.store.disk bc.appends c.store.disk (bc.any_moment (honesty.1 h) (works ∙ fine))));
+    },
+    both_noted model ab.appends bc.appends end x y z one two,
+  )
     where
       whole : take ab.stored ab.groups ≡ ab.groups
       whole =
@@ -236,13 +243,6 @@ module _ {D : Type 0} (model : Ghosts D) where
       each : AreAppends a.state ab.groups ab.appends
       each = subst (λ (gs : List (List Entry)). AreAppends a.state gs ab.appends) whole ab.are_appends
 
-  -- a batch was stored, and then the state was kept
-  pub commits_turn : (a k m n : KeeperState D) (end : Option CommitEnd) → k.store.has_failed ≡ a.store.has_failed → m.store.has_failed ≡ k.store.has_failed
-      → (model.honest k.store.disk ↔ model.honest a.store.disk) → (model.honest m.store.disk ↔ model.honest k.store.disk) → Commits model a k None → Commits model k m None
-      → Rests model m n → Commits model a n end
-  commits_turn a k m n end ak km honest_ak honest_km first second rests =
-      commits_both a m n end (km ∙ ak) (λ h. honest_ak.0 (honest_km.0 h), λ h. honest_km.1 (honest_ak.1 h)) (commits_both a k m None ak honest_ak first second) (commits_kept m n end rests)
-
   -- ---- with the history
 
   pub kept_noted : (old new : KeeperState D) (end : Option CommitEnd) (rests : Rests model old new) (acts : List Act)
@@ -250,31 +250,15 @@ module _ {D : Type 0} (model : Ghosts D) where
   unfolding commits_kept
   kept_noted old new end rests acts = (commits_kept old new end rests, none_noted model [] end acts refl)
 
-  pub group_noted : ((disk : D) (image : List ℕ) → model.honest disk → model.left_since disk (model.moment disk) image → model.may_leave disk image) → (old new : KeeperState D) (end : Option CommitEnd) (batch : Batch) (a b : List Act)
-      → 1 ≤ length batch.entries → AreLegal old.state batch.entries → new.state ≡ after_all old.state batch.entries → new.store.has_failed ≡ old.store.has_failed → (model.honest new.store.disk ↔ model.honest old.store.disk)
-      → (model.honest new.store.disk → new.store.has_failed ≡ false → EachStandsFor model new.store.disk new.state)
-      → (model.honest old.store.disk → old.store.has_failed ≡ false → LeavesOnly model old.store.disk new.store.disk (StandsForEither old.state (after_all old.state batch.entries)))
-      → AppendsAreNoted model (record { batch = batch; before = old; after = new } ∷ []) end a b
-      → (all : Commits model old new end) × AppendsAreNoted model all.appends end a b
-  unfolding commits_group
-  group_noted only_now old new end batch a b some legal state still honesty stands run notes =
-      (commits_group only_now old new end batch some legal state still honesty stands run, notes)
-
-  pub both_commits : (a b c : KeeperState D) (end : Option CommitEnd) (x y z : List Act) → b.store.has_failed ≡ a.store.has_failed → (model.honest b.store.disk ↔ model.honest a.store.disk)
-      → (ab : Commits model a b None) → AppendsAreNoted model ab.appends None x y → (bc : Commits model b c end) → AppendsAreNoted model bc.appends end y z
-      → (all : Commits model a c end) × AppendsAreNoted model all.appends end x z
-  unfolding commits_both
-  both_commits a b c end x y z works honesty ab one bc two = (commits_both a b c end works honesty ab bc, both_noted model ab.appends bc.appends end x y z one two)
-
+  -- a batch was stored, and then the state was kept
   pub turn_commits : (a k m n : KeeperState D) (end : Option CommitEnd) (x y z : List Act) → k.store.has_failed ≡ a.store.has_failed → m.store.has_failed ≡ k.store.has_failed
       → (model.honest k.store.disk ↔ model.honest a.store.disk) → (model.honest m.store.disk ↔ model.honest k.store.disk) → (first : Commits model a k None) → AppendsAreNoted model first.appends None x y
       → (second : Commits model k m None) → AppendsAreNoted model second.appends None y z → Rests model m n
       → (all : Commits model a n end) × AppendsAreNoted model all.appends end x z
-  unfolding commits_turn commits_both commits_kept
-  turn_commits a k m n end x y z ak km honest_ak honest_km first one second two rests = (
-    commits_turn a k m n end ak km honest_ak honest_km first second rests,
-    turn_noted model first.appends second.appends end x y z one two,
-  )
+  turn_commits a k m n end x y z ak km honest_ak honest_km first one second two rests =
+      let (stored, noted) = both_commits a k m None x y z ak honest_ak first one second two in
+      let (kept, none) = kept_noted m n end rests z in
+      both_commits a m n end x z z (km ∙ ak) (λ h. honest_ak.0 (honest_km.0 h), λ h. honest_km.1 (honest_ak.1 h)) stored noted kept none
 
   -- a side that went on may end
   pub ended_noted : (a b : KeeperState D) (end : Option CommitEnd) (x y : List Act) (c : Commits model a b None) → AppendsAreNoted model c.appends None x y
@@ -365,8 +349,7 @@ module _ {D : Type 0} (model : Ghosts D) (only_now : (disk : D) (image : List �
   commits_fault Failed first entries fails state run = (commits_none (Some (Store Failed)) fails.1, refl)
   commits_fault (NoMemory error) first entries fails state run = (commits_none (Some (Store (NoMemory error))) fails.1.same, refl)
   commits_fault (Mismatch place) first entries fails state run = (commits_none (Some Strange) fails.1.same, refl)
-  commits_fault (Damaged offset) first entries fails state run = absurd fails
-  commits_fault Unformatted first entries fails state run = absurd fails
+  commits_fault _ first entries fails state run = absurd fails
 
 module _ {D : Type 0} (model : Ghosts D) (old new : KeeperState D) where
   still_same : new ≡ old → IsStill model old new
@@ -378,8 +361,7 @@ module _ {D : Type 0} (model : Ghosts D) (old new : KeeperState D) where
   fault_tells Failed first entries fails = fails
   fault_tells (NoMemory error) first entries fails = still_same fails.1.same
   fault_tells (Mismatch place) first entries fails = still_same fails.1.same
-  fault_tells (Damaged offset) first entries fails = absurd fails
-  fault_tells Unformatted first entries fails = absurd fails
+  fault_tells _ first entries fails = absurd fails
 
   -- the disk works on
   pub still_works : Works model old new → IsStill model old new
@@ -397,8 +379,7 @@ module _ {D : Type 0} (model : Ghosts D) (old new : KeeperState D) where
   device_alone Cause Failed works memory mismatch fails = let had = fails.0 in absurd (cc (had, works))
   device_alone Cause (NoMemory error) works memory mismatch fails = absurd (memory refl fails.0)
   device_alone Cause (Mismatch place) works memory mismatch fails = absurd (mismatch place fails.0)
-  device_alone Cause (Damaged offset) works memory mismatch fails = absurd fails
-  device_alone Cause Unformatted works memory mismatch fails = absurd fails
+  device_alone Cause _ works memory mismatch fails = absurd fails
 
 -- what is said of a fault is said of a result that has it
 pub fault_is : {T : Type 0} (result : Result T Fault) (fault : Fault) (P : Fault → Type 0) → IsErrAnd result (λ f. f ≡ fault) → P fault → IfErr result P

@@ -46,7 +46,3 @@ module _ {D : Type 0} (model : Ghosts D) where
     two ∙ ap (λ (s : List (Batch × ℕ)). s ++ m) one ∙ append_assoc (stores_in a) n m,
     both_notes first second end n m are also,
   )
-
-  -- a batch was stored, and then nothing
-  pub turn_noted : (first second : List (Append D)) (end : Option CommitEnd) (a b c : List Act) → AppendsAreNoted model first None a b → AppendsAreNoted model second None b c → AppendsAreNoted model ((first ++ second) ++ []) end a c
-  turn_noted first second end a b c one two = both_noted (first ++ second) [] end a c c (both_noted first second None a b c one two) (none_noted [] end c refl)

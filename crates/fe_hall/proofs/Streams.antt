@@ -17,7 +17,7 @@ use Rattle.fe_wire.proofs.Existence.{each_has_reading}
 use Rattle.fe_wire.proofs.StreamLaws.{one_reading, nothing_unfinished}
 use Rattle.fe_hall.specs.declared.ends.ReadEnd.{ReadEnd}
 use Rattle.fe_memory.specs.declared.OutOfMemory.{OutOfMemory}
-use Rattle.fe_hall.specs.declared.ends.ReadEnd.TheVariants.{Closed, Device, BadFrame, Gone, Turns, Stopped, Spent, NoMemory}
+use Rattle.fe_hall.specs.declared.ends.ReadEnd.TheVariants.{BadFrame, Gone, Stopped, Spent, NoMemory}
 use Rattle.fe_shared.specs.Seats.{CallSeatState}
 use Rattle.fe_hall.specs.Reads.{AreHandled, EndsEarly, EndsAmong, EndsAt, HandlesStream, IsAt}
 
@@ -105,14 +105,11 @@ module _ (before after : CallSeatState) (list : List ClientMessage) where
       }
 
   ends_before : (end : ReadEnd) (messages : List ClientMessage) (rest : List ℕ) (count : ℕ) → EndsEarly end → count < length messages → EndsAt end messages rest count
-  ends_before Closed messages rest count breaks less = absurd breaks
-  ends_before Device messages rest count breaks less = absurd breaks
-  ends_before (BadFrame offset) messages rest count breaks less = absurd breaks
   ends_before Gone messages rest count breaks less = less
-  ends_before Turns messages rest count breaks less = absurd breaks
   ends_before Stopped messages rest count breaks less = less
   ends_before Spent messages rest count breaks less = less
   ends_before (NoMemory short) messages rest count breaks less = inl less
+  ends_before _ messages rest count breaks less = absurd breaks
 
   -- the side ends before a message
   pub ends_within : (bytes : List ℕ) (d : Decoding) (end : ReadEnd) (messages more : List ClientMessage) → d.version ≡ Two → HasRead d bytes (messages ++ more)

@@ -1,8 +1,7 @@
 -- What a write side took and wrote, piece by piece.
-use Rattle.std.proofs.Common.{◌≡◌, ℕ, zero, suc, ◌+◌, ◌-◌, ◌<◌, ◌≤◌, Bool, true, List, [], ◌∷◌, ◌++◌, length, take, drop, Option, Some, None, Result, Ok, Err, refl, sym, ap, subst, ◌∙◌, append_assoc, arith, length-append}
+use Rattle.std.proofs.Common.{◌≡◌, ℕ, zero, suc, ◌+◌, ◌-◌, ◌<◌, ◌≤◌, Bool, true, List, [], ◌∷◌, ◌++◌, length, take, drop, Option, Some, None, Result, Err, refl, sym, ap, subst, ◌∙◌, append_assoc, arith, length-append}
 use Rattle.std.specs.Prelude.{if◌then◌else◌, is_ok}
 use Rattle.std.specs.List.{filter_map, cons_option}
-use Rattle.std.proofs.lemmas.Option.{none-some, same_Some}
 use Rattle.std.proofs.lemmas.List.{append-nil, take-append-le, take_all, take-take}
 use Rattle.std.proofs.lemmas.List.Elements.{filter_map-append}
 use Rattle.std.proofs.lemmas.Grind.{flat_map-append}
@@ -13,7 +12,7 @@ use Rattle.fe_messages.specs.Mails.{reply_of, spelled}
 use Rattle.fe_wire.specs.declared.server_message.ServerMessage.{ServerMessage}
 use Rattle.fe_history.specs.declared.receipt.Receipt.{Receipt}
 use Rattle.fe_hall.specs.declared.write_end.WriteEnd.{WriteEnd}
-use Rattle.fe_hall.specs.declared.write_end.WriteEnd.TheVariants.{Gone, Device, Stopped, Spent, NoMemory}
+use Rattle.fe_hall.specs.declared.write_end.WriteEnd.TheVariants.{Device, NoMemory}
 use Rattle.fe_shared.specs.declared.last_answer.LastAnswer.{LastAnswer}
 use Rattle.fe_shared.specs.declared.last_answer.LastAnswer.TheVariants as last_answer
 use Rattle.fe_shared.specs.declared.taking.Taking.{Taking}
@@ -23,7 +22,7 @@ use Rattle.fe_history.specs.Receipts.{receipt_of}
 use Rattle.fe_hall.specs.within.Sides.{IssuesOn}
 use Rattle.fe_history.specs.declared.act.Act.{Act}
 use Rattle.fe_history.proofs.Acts.{issued_both, prefix_trans}
-use Rattle.fe_hall.specs.Writes.{receipts_with, IsBatch, BreaksOff, MayLackLast, IsWritten, AreTaken, TakesOn, IsNoFault, IsEndAfter, AreSpelled, end_for}
+use Rattle.fe_hall.specs.Writes.{receipts_with, IsBatch, BreaksOff, MayLackLast, IsWritten, AreTaken, TakesOn, AreSpelled}
 
 -- ---- lists
 
@@ -74,16 +73,19 @@ takes_same a b kept same few still receipts =
     let none = takes_none a kept few in record { conn = still.conn; count = still.mails ∙ none.count; taken = still.taken ∙ none.taken; receipts = receipts ∙ none.receipts }
 
 -- a mail is taken, and its receipt kept
-pub takes_one : (a b : MailSeatState) (kept same all : List Receipt) (m : Mail) (more : Bool) → same ≡ kept → b ≡ mail_taken a m more → all ≡ receipts_with b.conn same (m ∷ []) → TakesOn a b kept all (m ∷ [])
-takes_one a b kept same all m more receipts took keeps = record {
-  conn = ap (λ (s : MailSeatState). s.conn) took;
-  count = ap (λ (s : MailSeatState). s.mails) took;
-  taken = ap (λ (s : MailSeatState). s.taken) took;
-  receipts =
-      keeps
-      ∙ ap (λ (s : MailSeatState). receipts_with s.conn same (m ∷ [])) took
-      ∙ ap (λ (rs : List Receipt). receipts_with a.conn rs (m ∷ [])) receipts;
-}
+pub takes_one : (a b : MailSeatState) (given : Taking) (kept same all : List Receipt) (m : Mail) (more : Bool) (n : ℕ) → same ≡ kept → b ≡ taking_answered a given → given ≡ taking.Mail m more → n ≡ b.conn
+    → all ≡ receipts_with n same (m ∷ []) → TakesOn a b kept all (m ∷ [])
+takes_one a b given kept same all m more n receipts answered is conn keeps =
+    let took : b ≡ mail_taken a m more = answered ∙ ap (λ (g : Taking). taking_answered a g) is in
+    record {
+      conn = ap (λ (s : MailSeatState). s.conn) took;
+      count = ap (λ (s : MailSeatState). s.mails) took;
+      taken = ap (λ (s : MailSeatState). s.taken) took;
+      receipts =
+          keeps
+          ∙ ap (λ (k : ℕ). receipts_with k same (m ∷ [])) (conn ∙ ap (λ (s : MailSeatState). s.conn) took)
+          ∙ ap (λ (rs : List Receipt). receipts_with a.conn rs (m ∷ [])) receipts;
+    }
 
 -- all that a side took, and that it took when it leaves
 pub as_taken : {before after left : MailSeatState} {none kept : List Receipt} {mails : List Mail} → TakesOn before after none kept mails → none ≡ [] → TookNoMail after left → AreTaken before left kept mails
@@ -96,30 +98,10 @@ as_taken {before} {mails} takes is still =
 pub issues_on : (n k : ℕ) (ms ns : List Mail) (xs ys zs : List Act) → k ≡ n → IssuesOn n ms xs ys → IssuesOn k ns ys zs → IssuesOn n (ms ++ ns) xs zs
 issues_on n k ms ns xs ys zs same one two = (prefix_trans xs ys zs one.0 two.0, issued_both n k ms ns ys zs same two.0 one.1 two.1)
 
--- ---- what the hall told
-
--- a mail came
-pub answered_mail : (s t : MailSeatState) (given : Taking) (m : Mail) (more : Bool) → t ≡ taking_answered s given → given ≡ taking.Mail m more → t ≡ mail_taken s m more
-answered_mail s t given m more answered is = answered ∙ ap (λ (g : Taking). taking_answered s g) is
-
--- the seat of a side that is told how it stands
-none_at : (s t : MailSeatState) (ended_as : LastAnswer) → t ≡ record s { last_answer = ended_as } → TookNoMail s t
-none_at s t ended_as is = record { conn = ap (λ (u : MailSeatState). u.conn) is; mails = ap (λ (u : MailSeatState). u.mails) is; taken = ap (λ (u : MailSeatState). u.taken) is }
-
--- none came, for this reason
-pub record EndsSo (s t : MailSeatState) (end : WriteEnd) : Type 0 where
-  pub none : TookNoMail s t
-  pub fine : IsNoFault end
-  pub ended_as : IsEndAfter end t.last_answer
-
-pub answered_end : (s t : MailSeatState) (given : Taking) (end : WriteEnd) → t ≡ taking_answered s given → end_for given ≡ Some end → EndsSo s t end
-answered_end s t (taking.Mail m more) end answered is = absurd (none-some end is)
-answered_end s t taking.Gone end answered is =
-    subst (λ (e : WriteEnd). EndsSo s t e) (same_Some _ _ is) (record { none = none_at s t last_answer.Gone answered; fine = tt; ended_as = ap (λ (u : MailSeatState). u.last_answer) answered })
-answered_end s t taking.Stopped end answered is =
-    subst (λ (e : WriteEnd). EndsSo s t e) (same_Some _ _ is) (record { none = none_at s t last_answer.Stopped answered; fine = tt; ended_as = ap (λ (u : MailSeatState). u.last_answer) answered })
-answered_end s t taking.Spent end answered is =
-    subst (λ (e : WriteEnd). EndsSo s t e) (same_Some _ _ is) (record { none = none_at s t last_answer.Spent answered; fine = tt; ended_as = ap (λ (u : MailSeatState). u.last_answer) answered })
+-- no mail is taken, and the side ends
+pub takes_end : (s t : MailSeatState) (ended_as : LastAnswer) (kept same : List Receipt) → length kept ≤ 1024 → same ≡ kept → t ≡ record s { last_answer = ended_as } → TakesOn s t kept same []
+takes_end s t ended_as kept same few receipts is =
+    takes_same s t kept same few (record { conn = ap (λ (u : MailSeatState). u.conn) is; mails = ap (λ (u : MailSeatState). u.mails) is; taken = ap (λ (u : MailSeatState). u.taken) is }) receipts
 
 -- a mail without a receipt, and one whose receipt is kept, or is beyond the first
 pub keeps_none : (n : ℕ) (kept : List Receipt) (m : Mail) → length kept ≤ 1024 → None ≡ receipt_of n m → kept ≡ receipts_with n kept (m ∷ [])
@@ -169,9 +151,6 @@ lacks_one before same mails few is = record { earlier = []; last = mails; all = 
 -- after mails that are spelled others were taken, when the side ends
 pub spells_on : (A B : Type 0) (end : WriteEnd) (frames after : List ℕ) (mails more : List Mail) → frames ≡ spelled mails → AreSpelled {A = A} frames (Err end) more after
     → AreSpelled {A = B} [] (Err end) (mails ++ more) after
-spells_on A B Gone frames after mails more so_far is = spelled_more frames after mails more so_far is
-spells_on A B Stopped frames after mails more so_far is = spelled_more frames after mails more so_far is
-spells_on A B Spent frames after mails more so_far is = spelled_more frames after mails more so_far is
 spells_on A B Device frames after mails more so_far is = absurd is
 spells_on A B (NoMemory short) frames after mails more so_far w = record {
   earlier = mails ++ w.earlier;
@@ -180,18 +159,16 @@ spells_on A B (NoMemory short) frames after mails more so_far w = record {
   few = w.few;
   got = spelled_more frames after mails w.earlier so_far w.got;
 }
+spells_on A B _ frames after mails more so_far is = spelled_more frames after mails more so_far is
 
 -- what is spelled when a side ends is a front of the mails' frames
 rest_of : {A : Type 0} (taken : Result A WriteEnd) (mails : List Mail) (frames : List ℕ) → AreSpelled [] taken mails frames → (rest : List ℕ) × (spelled mails ≡ frames ++ rest)
-rest_of (Ok a) mails frames is = ([], sym is ∙ sym (append-nil frames))
-rest_of (Err Gone) mails frames is = ([], sym is ∙ sym (append-nil frames))
-rest_of (Err Stopped) mails frames is = ([], sym is ∙ sym (append-nil frames))
-rest_of (Err Spent) mails frames is = ([], sym is ∙ sym (append-nil frames))
 rest_of (Err Device) mails frames is = absurd is
 rest_of (Err (NoMemory short)) mails frames w = (
   spelled w.last,
   ap spelled w.all ∙ spelled-append w.earlier w.last ∙ ap (λ t. t ++ spelled w.last) (sym w.got),
 )
+rest_of _ mails frames is = ([], sym is ∙ sym (append-nil frames))
 
 pub breaks_off : {A : Type 0} (taken : Result A WriteEnd) (before frames bytes after : List ℕ) (mails : List Mail) (n : ℕ) → bytes ≡ frames → IsBatch mails
     → AreSpelled [] taken mails frames → n ≤ length bytes → after ≡ before ++ take n bytes → BreaksOff before mails after
@@ -214,9 +191,6 @@ written_so before frames bytes after mails spelling same got = got ∙ ap (λ t.
 
 pub written_as : (A : Type 0) (end : WriteEnd) (before frames bytes after : List ℕ) (mails : List Mail) → AreSpelled {A = A} [] (Err end) mails frames → bytes ≡ frames → after ≡ before ++ bytes
     → IsWritten before mails end after
-written_as A Gone before frames bytes after mails spelling same got = written_so before frames bytes after mails spelling same got
-written_as A Stopped before frames bytes after mails spelling same got = written_so before frames bytes after mails spelling same got
-written_as A Spent before frames bytes after mails spelling same got = written_so before frames bytes after mails spelling same got
 written_as A Device before frames bytes after mails spelling same got = absurd spelling
 written_as A (NoMemory short) before frames bytes after mails w same got = record {
   earlier = w.earlier;
@@ -225,6 +199,7 @@ written_as A (NoMemory short) before frames bytes after mails w same got = recor
   few = w.few;
   got = written_so before frames bytes after w.earlier w.got same got;
 }
+written_as A _ before frames bytes after mails spelling same got = written_so before frames bytes after mails spelling same got
 
 pub wrote_more : (before mid after : List ℕ) (ms ns : List Mail) → mid ≡ before ++ spelled ms → after ≡ mid ++ spelled ns → after ≡ before ++ spelled (ms ++ ns)
 wrote_more before mid after ms ns so_far got =
@@ -234,9 +209,6 @@ wrote_more before mid after ms ns so_far got =
     ∙ ap (λ t. before ++ t) (sym (spelled-append ms ns))
 
 pub written_more : (end : WriteEnd) (before mid after : List ℕ) (ms ns : List Mail) → mid ≡ before ++ spelled ms → IsWritten mid ns end after → IsWritten before (ms ++ ns) end after
-written_more Gone before mid after ms ns so_far got = wrote_more before mid after ms ns so_far got
-written_more Stopped before mid after ms ns so_far got = wrote_more before mid after ms ns so_far got
-written_more Spent before mid after ms ns so_far got = wrote_more before mid after ms ns so_far got
 written_more Device before mid after ms ns so_far w = record {
   earlier = ms ++ w.earlier;
   last = w.last;
@@ -257,3 +229,4 @@ written_more (NoMemory short) before mid after ms ns so_far w = record {
   few = w.few;
   got = wrote_more before mid after ms w.earlier so_far w.got;
 }
+written_more _ before mid after ms ns so_far got = wrote_more before mid after ms ns so_far got

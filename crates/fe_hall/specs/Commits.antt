@@ -19,7 +19,7 @@ use Rattle.fe_shared.specs.declared.shared.batches.Unposted.{Unposted}
 use Rattle.fe_shared.specs.declared.shared.batches.Unposted.TheVariants as unposted
 use Rattle.fe_history.specs.declared.act.Act.{Act}
 use Rattle.fe_hall.specs.declared.commit_end.CommitEnd.{CommitEnd}
-use Rattle.fe_hall.specs.declared.commit_end.CommitEnd.TheVariants.{Stopped, Store, Strange, Spent}
+use Rattle.fe_hall.specs.declared.commit_end.CommitEnd.TheVariants.{Store, Strange, Spent}
 use Rattle.fe_disk.specs.declared.disk.Disk.{Ghosts}
 
 -- an append that succeeded: the batch, the keeper before it, and the keeper after it
@@ -31,11 +31,10 @@ pub record Append (D : Type 0) : Type 0 where
 -- the appends stored the groups from the state on, one by one
 abbrev pub AreAppends : {D : Type 0} → ServerState → List (List Entry) → List (Append D) → Type 0
 AreAppends s [] [] = Unit {0}
-AreAppends s [] (append ∷ appends) = ⊥
-AreAppends s (group ∷ groups) [] = ⊥
 AreAppends s (group ∷ groups) (append ∷ appends) =
     (append.before.state ≡ s) × (append.after.state ≡ after_all s group) × (append.batch.entries ≡ group)
     × AreAppends (after_all s group) groups appends
+AreAppends s _ _ = ⊥
 
 -- From this disk on, up to the last, each image that a stop leaves stands for a prefix of the history with at
 -- least n groups; from the end of the next append on, with one more; and so on. Each append begins when the
@@ -106,13 +105,8 @@ end_of_post (unposted.Strange strange) = Strange
 
 -- what the end of the side says of the keeper's disk; an end of `None` says that the side goes on
 abbrev pub EndsAs : {D : Type 0} → Ghosts D → KeeperState D → KeeperState D → Option CommitEnd → Type 0
-EndsAs model old new None = IsStill model old new
-EndsAs model old new (Some Stopped) = IsStill model old new
 EndsAs model old new (Some (Store Device)) = Breaks model old new
 EndsAs model old new (Some (Store Failed)) = (old.store.has_failed ≡ true) × (new ≡ old)
 EndsAs model old new (Some (Store (NoMemory error))) = IsStill model old new
-EndsAs model old new (Some (Store (Mismatch place))) = ⊥
-EndsAs model old new (Some (Store (Damaged offset))) = ⊥
-EndsAs model old new (Some (Store Unformatted)) = ⊥
-EndsAs model old new (Some Strange) = IsStill model old new
-EndsAs model old new (Some Spent) = IsStill model old new
+EndsAs model old new (Some (Store _)) = ⊥
+EndsAs model old new _ = IsStill model old new

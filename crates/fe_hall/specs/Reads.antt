@@ -11,8 +11,7 @@ use Rattle.fe_wire.specs.Spelling.{spelling}
 use Rattle.fe_wire.specs.Stream.{Decoding, HasRead, IsStream, IsUnfinished, IsBad}
 use Rattle.fe_codes.specs.Reading.{IsBytes}
 use Rattle.fe_wire.specs.declared.client_message.ClientMessage.{ClientMessage}
-use Rattle.fe_wire.specs.declared.client_message.ClientMessage.TheVariants.{Attach, Call, Cancel, Settle, Bye}
-use Rattle.fe_wire.specs.declared.client_message.ClientMessage.TheVariants.{Report}
+use Rattle.fe_wire.specs.declared.client_message.ClientMessage.TheVariants.{Attach, Call}
 use Rattle.fe_wire.specs.declared.version.Version.TheVariants.{Two}
 use Rattle.fe_hall.specs.declared.ends.ReadEnd.{ReadEnd}
 use Rattle.fe_hall.specs.declared.ends.ReadEnd.TheVariants.{Closed, Device, BadFrame, Gone, Turns, Stopped}
@@ -34,10 +33,7 @@ count_of reads = fold-Reads ℕ more reads
 abbrev pub is_sent : ClientMessage → Bool
 is_sent (Attach session) = true
 is_sent (Call number request) = true
-is_sent (Cancel number) = false
-is_sent (Settle floor) = false
-is_sent Bye = false
-is_sent Report = false
+is_sent _ = false
 
 -- how many calls are among these messages
 abbrev pub calls_among : List ClientMessage → ℕ
@@ -63,9 +59,6 @@ pub record AreHandled (before after : CallSeatState) (list messages : List Clien
 -- were handled; `NoMemory` may also come where the stream has no whole message: memory for the buffer runs
 -- out before anything is read
 abbrev pub EndsAt : ReadEnd → List ClientMessage → List ℕ → ℕ → Type 0
-EndsAt Closed messages rest count = (count ≡ length messages) × IsUnfinished Two rest
-EndsAt Device messages rest count = (count ≡ length messages) × IsUnfinished Two rest
-EndsAt Turns messages rest count = (count ≡ length messages) × IsUnfinished Two rest
 EndsAt (BadFrame offset) messages rest count =
     (count ≡ length messages) × IsBad Two rest
     × (offset ≡ min (length (flat_map spelling messages)) (2 ^ 64 - 1))
@@ -73,6 +66,7 @@ EndsAt Gone messages rest count = count < length messages
 EndsAt Stopped messages rest count = count < length messages
 EndsAt Spent messages rest count = count < length messages
 EndsAt (NoMemory short) messages rest count = (count < length messages) ⊎ (messages ≡ [])
+EndsAt _ messages rest count = (count ≡ length messages) × IsUnfinished Two rest
 
 -- A side read these bytes, the stream of its client: the first `count` of the stream's messages were handled,
 -- and no others.
@@ -93,14 +87,10 @@ IsQuietEnd end = (end ≡ Closed) ⊎ (end ≡ Turns)
 -- an end that agrees with the hall's last answer: at `Gone`, `Stopped` and `Spent` the hall had answered so;
 -- the other ends go with any answer
 abbrev pub IsEndAfter : ReadEnd → LastAnswer → Type 0
-IsEndAfter Closed s = Unit {0}
-IsEndAfter Device s = Unit {0}
-IsEndAfter Turns s = Unit {0}
-IsEndAfter (BadFrame offset) s = Unit {0}
 IsEndAfter Gone s = s ≡ last_answer.Gone
 IsEndAfter Stopped s = s ≡ last_answer.Stopped
 IsEndAfter Spent s = s ≡ last_answer.Spent
-IsEndAfter (NoMemory short) s = Unit {0}
+IsEndAfter _ s = Unit {0}
 
 -- ---- while the side reads
 
@@ -113,20 +103,16 @@ listed_with list message =
 -- sets no bound
 abbrev pub AreLeft : Option ℕ → Option ℕ → ℕ → Type 0
 AreLeft None None made = Unit {0}
-AreLeft None (Some left) made = ⊥
-AreLeft (Some turns) None made = ⊥
 AreLeft (Some turns) (Some left) made = made + left ≡ turns
+AreLeft _ _ made = ⊥
 
 -- an end that may leave a whole message unhandled
 abbrev pub EndsEarly : ReadEnd → Type 0
-EndsEarly Closed = ⊥
-EndsEarly Device = ⊥
-EndsEarly Turns = ⊥
-EndsEarly (BadFrame offset) = ⊥
 EndsEarly Gone = Unit {0}
 EndsEarly Stopped = Unit {0}
 EndsEarly Spent = Unit {0}
 EndsEarly (NoMemory short) = Unit {0}
+EndsEarly _ = ⊥
 
 -- the side ended because of the messages, their frames, memory or what the hall answered: not because the
 -- stream ended, a read failed, or no more reads may be made

@@ -1,7 +1,7 @@
 -- What the write side of a connection, the thread that writes, takes out of the box of its mails, and what
 -- its client gets. See `docs/model.md`, "The hall".
-use Rattle.std.specs.Prelude.{◌≡◌, ℕ, ◌+◌, ◌-◌, ◌<◌, ◌≤◌, List, ◌++◌, length, take, Option, Some, None}
-use Rattle.std.specs.Prelude.{Result, Ok, Err}
+use Rattle.std.specs.Prelude.{◌≡◌, ℕ, ◌+◌, ◌-◌, ◌<◌, ◌≤◌, List, ◌++◌, length, take}
+use Rattle.std.specs.Prelude.{Result, Err}
 use Rattle.std.specs.List.{filter_map}
 use Rattle.fe_mail.specs.declared.mail.Mail.{Mail}
 use Rattle.fe_messages.specs.Mails.{spelled}
@@ -11,8 +11,6 @@ use Rattle.fe_hall.specs.declared.write_end.WriteEnd.{WriteEnd}
 use Rattle.fe_hall.specs.declared.write_end.WriteEnd.TheVariants.{Gone, Device, Stopped, Spent, NoMemory}
 use Rattle.fe_shared.specs.declared.last_answer.LastAnswer.{LastAnswer}
 use Rattle.fe_shared.specs.declared.last_answer.LastAnswer.TheVariants as last_answer
-use Rattle.fe_shared.specs.declared.taking.Taking.{Taking}
-use Rattle.fe_shared.specs.declared.taking.Taking.TheVariants as taking
 use Rattle.fe_shared.specs.Seats.{MailSeatState}
 
 -- the most receipts that a side keeps
@@ -55,29 +53,19 @@ pub record MayLackLast (before : List ℕ) (mails : List Mail) (after : List ℕ
 -- What a client had got before these mails were taken for it, and what it has got when its write side ends:
 -- the frames of the mails in their order, all of them unless a write failed or memory was short.
 abbrev pub IsWritten : List ℕ → List Mail → WriteEnd → List ℕ → Type 0
-IsWritten before mails Gone after = after ≡ before ++ spelled mails
-IsWritten before mails Stopped after = after ≡ before ++ spelled mails
-IsWritten before mails Spent after = after ≡ before ++ spelled mails
 IsWritten before mails Device after = BreaksOff before mails after
 IsWritten before mails (NoMemory short) after = MayLackLast before mails after
+IsWritten before mails _ after = after ≡ before ++ spelled mails
 
 -- an end as `Gone`, `Stopped` or `Spent` is what the hall last answered the side; the other two may follow
 -- any answer
 abbrev pub IsEndAfter : WriteEnd → LastAnswer → Type 0
 IsEndAfter Gone s = s ≡ last_answer.Gone
-IsEndAfter Device s = Unit {0}
 IsEndAfter Stopped s = s ≡ last_answer.Stopped
 IsEndAfter Spent s = s ≡ last_answer.Spent
-IsEndAfter (NoMemory short) s = Unit {0}
+IsEndAfter _ s = Unit {0}
 
 -- ---- while the side runs
-
--- the end of the side, if it ends, after this outcome of a look into its box
-abbrev pub end_for : Taking → Option WriteEnd
-end_for (taking.Mail mail more) = None
-end_for taking.Gone = Some Gone
-end_for taking.Stopped = Some Stopped
-end_for taking.Spent = Some Spent
 
 -- the receipts of a side once it took these mails
 abbrev pub receipts_with : ℕ → List Receipt → List Mail → List Receipt
@@ -91,20 +79,9 @@ pub record TakesOn (before after : MailSeatState) (kept kept_after : List Receip
   pub taken : after.taken ≡ before.taken ++ mails
   pub receipts : kept_after ≡ receipts_with before.conn kept mails
 
--- an end without a failed write and without a lack of memory
-abbrev pub IsNoFault : WriteEnd → Type 0
-IsNoFault Gone = Unit {0}
-IsNoFault Stopped = Unit {0}
-IsNoFault Spent = Unit {0}
-IsNoFault Device = ⊥
-IsNoFault (NoMemory short) = ⊥
-
 -- the frames of the mails that were taken come after earlier frames: all of them, unless memory was short; no
 -- write fails here
 abbrev pub AreSpelled : {A : Type 0} → List ℕ → Result A WriteEnd → List Mail → List ℕ → Type 0
-AreSpelled before (Ok a) mails frames = frames ≡ before ++ spelled mails
-AreSpelled before (Err Gone) mails frames = frames ≡ before ++ spelled mails
-AreSpelled before (Err Stopped) mails frames = frames ≡ before ++ spelled mails
-AreSpelled before (Err Spent) mails frames = frames ≡ before ++ spelled mails
 AreSpelled before (Err Device) mails frames = ⊥
 AreSpelled before (Err (NoMemory short)) mails frames = MayLackLast before mails frames
+AreSpelled before _ mails frames = frames ≡ before ++ spelled mails

@@ -2,16 +2,17 @@
 use Rattle.std.proofs.Common.{◌≡◌, ◌⊎◌, inl, inr, ℕ, ◌+◌, ◌<◌, ◌≤◌, List, [], ◌∷◌, ◌++◌, length, refl, ap, sym, ◌∙◌, subst, arith, append_assoc, length-append}
 use Rattle.std.proofs.lemmas.List.{append-nil, length-map, map-append}
 use Rattle.std.proofs.lemmas.List.Concat.{flat_map-append}
+use Rattle.std.proofs.lemmas.Option.{IfSome_then}
 use mathlib.Core.List.{IsPrefix}
 use Rattle.fe_state.specs.State.{ServerState}
 use Rattle.fe_state.specs.declared.answer.Answer.{Answer}
 use Rattle.fe_state.specs.declared.batch.Batch.{Batch}
 use Rattle.fe_state.specs.declared.entry.Entry.{Entry}
-use Rattle.fe_state.specs.declared.entry.Entry.TheVariants.{Attached, Closed, Settled, Finished}
+use Rattle.fe_state.specs.declared.entry.Entry.TheVariants.{Finished}
 use Rattle.fe_state.specs.declared.request.Request.{Request}
 use Rattle.fe_messages.specs.Answers.{IsAnswerIn, IsFinishedAt}
 use Rattle.fe_messages.specs.Taking.{FinishesOnly, LeavesOpen}
-use Rattle.fe_messages.proofs.Boxes.{all_append}
+use Rattle.fe_messages.proofs.Boxes.{all_append, all_weaker}
 use Rattle.fe_messages.proofs.Answers.{finished_more}
 use Rattle.fe_history.specs.declared.act.Act.{Act}
 use Rattle.fe_history.specs.declared.act.Act.TheVariants.{Began, Asked, Called, Cut, Stored, Issued}
@@ -61,39 +62,57 @@ goes_append begun past (x ∷ acts) a goes may =
     (goes.0, goes_append begun (past ++ x ∷ []) acts a goes.1 (subst (λ (p : List Act). MayFollow begun p a) (sym (append_assoc past (x ∷ []) acts)) may))
 
 pub legal_append : (log : List Act) (a : Act) → IsLegal log → MayBeAppended log a → IsLegal (log ++ a ∷ [])
-legal_append [] a legal may = absurd legal
-legal_append (Began s ∷ log) a legal may = (legal.0, goes_append s [] log a legal.1 may)
-legal_append (Cut b ∷ log) a legal may = absurd legal
-legal_append (Stored b m ∷ log) a legal may = absurd legal
-legal_append (Asked c s ∷ log) a legal may = absurd legal
-legal_append (Called c s n q p ∷ log) a legal may = absurd legal
-legal_append (Issued q ∷ log) a legal may = absurd legal
+legal_append (Began s ∷ log) a legal may = (legal.0, goes_append s (Began s ∷ []) log a legal.1 may)
+legal_append _ a legal may = absurd legal
 
 -- an act of a history may follow those before it
-pub goes_at : (begun : ServerState) (past earlier later : List Act) (a : Act) → FollowEachOther begun past (earlier ++ a ∷ later) → MayFollow begun (past ++ earlier) a
+goes_at : (begun : ServerState) (past earlier later : List Act) (a : Act) → FollowEachOther begun past (earlier ++ a ∷ later) → MayFollow begun (past ++ earlier) a
 goes_at begun past [] later a goes = subst (λ (p : List Act). MayFollow begun p a) (sym (append-nil past)) goes.0
 goes_at begun past (x ∷ earlier) later a goes =
     subst (λ (p : List Act). MayFollow begun p a) (append_assoc past (x ∷ []) earlier) (goes_at begun (past ++ x ∷ []) earlier later a goes.1)
+
+-- a beginning of acts that follow each other follows too
+goes_front : (begun : ServerState) (past xs ys : List Act) → FollowEachOther begun past (xs ++ ys) → FollowEachOther begun past xs
+goes_front begun past [] ys goes = tt
+goes_front begun past (x ∷ xs) ys goes = (goes.0, goes_front begun (past ++ x ∷ []) xs ys goes.1)
+
+-- an act of a legal history, other than its beginning, may follow those before it, which are a legal history too
+pub may_at : (begun : ServerState) (log earlier later : List Act) (a : Act) → IsLegal log → IsPrefix (Began begun ∷ []) log → log ≡ earlier ++ a ∷ later → (Began begun ≡ a → ⊥)
+    → MayFollow begun earlier a × IsLegal earlier × IsPrefix (Began begun ∷ []) earlier
+may_at begun log [] later a legal begins is other =
+    let whole : Began begun ∷ begins.0 ≡ a ∷ later = begins.1 ∙ is in
+    absurd (other (cc whole))
+may_at begun log (e ∷ earlier) later a legal begins is other =
+    let whole : Began begun ∷ begins.0 ≡ e ∷ (earlier ++ a ∷ later) = begins.1 ∙ is in
+    let head : Began begun ≡ e = cc whole in
+    let tail : begins.0 ≡ earlier ++ a ∷ later = cc whole in
+    let all = subst IsLegal (sym begins.1) legal in
+    let goes = subst (λ (xs : List Act). FollowEachOther begun (Began begun ∷ []) xs) tail all.1 in
+    subst (λ (x : Act). MayFollow begun (x ∷ earlier) a × IsLegal (x ∷ earlier) × IsPrefix (Began begun ∷ []) (x ∷ earlier)) head
+    (goes_at begun (Began begun ∷ []) earlier later a goes, (all.0, goes_front begun (Began begun ∷ []) earlier (a ∷ later) goes), (earlier, refl))
+
+-- what may follow a history that began may be appended to it
+pub may_from : (begun : ServerState) (log : List Act) (a : Act) → IsPrefix (Began begun ∷ []) log → MayFollow begun log a → MayBeAppended log a
+may_from begun log a begins = subst (λ (xs : List Act). MayFollow begun xs a → MayBeAppended xs a) begins.1 (λ may. may)
 
 -- ---- cuts and stores
 
 pub cuts_append : (xs ys : List Act) → cuts_in (xs ++ ys) ≡ cuts_in xs ++ cuts_in ys
 cuts_append [] ys = refl
-cuts_append (Began s ∷ xs) ys = cuts_append xs ys
 cuts_append (Cut b ∷ xs) ys = ap (λ bs. b ∷ bs) (cuts_append xs ys)
-cuts_append (Stored b m ∷ xs) ys = cuts_append xs ys
-cuts_append (Asked c s ∷ xs) ys = cuts_append xs ys
-cuts_append (Called c s n q p ∷ xs) ys = cuts_append xs ys
-cuts_append (Issued q ∷ xs) ys = cuts_append xs ys
+cuts_append (_ ∷ xs) ys = cuts_append xs ys
 
 pub stores_append : (xs ys : List Act) → stores_in (xs ++ ys) ≡ stores_in xs ++ stores_in ys
 stores_append [] ys = refl
-stores_append (Began s ∷ xs) ys = stores_append xs ys
-stores_append (Cut b ∷ xs) ys = stores_append xs ys
 stores_append (Stored b m ∷ xs) ys = ap (λ s. (b, m) ∷ s) (stores_append xs ys)
-stores_append (Asked c s ∷ xs) ys = stores_append xs ys
-stores_append (Called c s n q p ∷ xs) ys = stores_append xs ys
-stores_append (Issued q ∷ xs) ys = stores_append xs ys
+stores_append (_ ∷ xs) ys = stores_append xs ys
+
+-- an act that is no cut, or no store
+pub no_cuts : (log : List Act) (a : Act) → cuts_in (a ∷ []) ≡ [] → cuts_in (log ++ a ∷ []) ≡ cuts_in log
+no_cuts log a none = cuts_append log (a ∷ []) ∙ ap (λ bs. cuts_in log ++ bs) none ∙ append-nil (cuts_in log)
+
+pub no_stores : (log : List Act) (a : Act) → stores_in (a ∷ []) ≡ [] → stores_in (log ++ a ∷ []) ≡ stores_in log
+no_stores log a none = stores_append log (a ∷ []) ∙ ap (λ s. stores_in log ++ s) none ∙ append-nil (stores_in log)
 
 pub cuts_rise : (xs ys : List Act) → IsPrefix xs ys → IsPrefix (cuts_in xs) (cuts_in ys)
 cuts_rise xs ys p = (cuts_in p.0, sym (cuts_append xs p.0) ∙ ap cuts_in p.1)
@@ -139,19 +158,12 @@ stands_last xs ys a is = (length xs, subst (λ (zs : List Act). slice_get zs (le
 pub called_later : (xs ys : List Act) (session number : ℕ) (request : Request) → IsPrefix xs ys → WasCalled xs session number request → WasCalled ys session number request
 called_later xs ys session number request p called = (called.0, called.1, stands_later xs ys (Called called.0 session number request called.1) p called.2)
 
--- each call among the first acts is one among the others
-abbrev pub CallsAreIn : List Act → List Act → Type 0
-CallsAreIn xs ys = (conn session number : ℕ) (request : Request) (place : ℕ) → StandsIn xs (Called conn session number request place) → StandsIn ys (Called conn session number request place)
-
-pub calls_later : (xs ys : List Act) → IsPrefix xs ys → CallsAreIn xs ys
-calls_later xs ys p conn session number request place = stands_later xs ys (Called conn session number request place) p
-
-pub since_in : (begun : ServerState) (xs ys : List Act) (es : List Entry) (session number : ℕ) (request : Request) → CallsAreIn xs ys → WasCalledSince begun xs es session number request
+pub since_later : (begun : ServerState) (xs ys : List Act) (es : List Entry) (session number : ℕ) (request : Request) → IsPrefix xs ys → WasCalledSince begun xs es session number request
     → WasCalledSince begun ys es session number request
-since_in begun xs ys es session number request so c = record {
+since_later begun xs ys es session number request p c = record {
   conn = c.conn;
   place = c.place;
-  called = so c.conn session number request c.place c.called;
+  called = stands_later xs ys (Called c.conn session number request c.place) p c.called;
   before = c.before;
   since = c.since;
   entries_are = c.entries_are;
@@ -175,20 +187,15 @@ since_more begun acts es more session number request left c = record {
 
 -- what an entry finishes was called, where more was called
 pub finishes_more : (called more : ℕ → ℕ → Request → Type 0) → ((session number : ℕ) (request : Request) → called session number request → more session number request) → (e : Entry) → FinishesOnly called e → FinishesOnly more e
-finishes_more called more so (Attached session floor) is = tt
-finishes_more called more so (Closed session) is = tt
-finishes_more called more so (Settled session floor) is = tt
 finishes_more called more so (Finished session number request answer) is = so session number request is
-
-pub entries_called : (begun : ServerState) (xs ys : List Act) → CallsAreIn xs ys → (front es : List Entry) → AreOfCalls begun xs front es → AreOfCalls begun ys front es
-entries_called begun xs ys so front [] called = tt
-entries_called begun xs ys so front (e ∷ es) called = (
-  finishes_more (WasCalledSince begun xs front) (WasCalledSince begun ys front) (λ session number request. since_in begun xs ys front session number request so) e called.0,
-  entries_called begun xs ys so (front ++ e ∷ []) es called.1,
-)
+finishes_more called more so _ is = tt
 
 pub entries_called_later : (begun : ServerState) (xs ys : List Act) (front es : List Entry) → IsPrefix xs ys → AreOfCalls begun xs front es → AreOfCalls begun ys front es
-entries_called_later begun xs ys front es p = entries_called begun xs ys (calls_later xs ys p) front es
+entries_called_later begun xs ys front [] p called = tt
+entries_called_later begun xs ys front (e ∷ es) p called = (
+  finishes_more (WasCalledSince begun xs front) (WasCalledSince begun ys front) (λ session number request. since_later begun xs ys front session number request p) e called.0,
+  entries_called_later begun xs ys (front ++ e ∷ []) es p called.1,
+)
 
 -- entries after others that were called too
 pub entries_called_both : (begun : ServerState) (acts : List Act) (front es more : List Entry) → AreOfCalls begun acts front es → AreOfCalls begun acts (front ++ es) more → AreOfCalls begun acts front (es ++ more)
@@ -209,17 +216,13 @@ answer_of_call begun acts entries r (inr is) = inr is
 
 -- what may be issued may be issued later
 pub issued_may : (xs ys : List Act) (r : Receipt) → IsPrefix xs ys → MayBeAppended xs (Issued r) → MayBeAppended ys (Issued r)
-issued_may [] ys r p may = absurd may
 issued_may (Began s ∷ xs) ys r p may =
-    subst (λ (zs : List Act). MayBeAppended zs (Issued r)) p.1 (
-      answer_of_call_later s xs (xs ++ p.0) (batches_of (stores_in xs)) (batches_of (stores_in (xs ++ p.0))) r (p.0, refl) (stored_rise xs (xs ++ p.0) (p.0, refl)) may.0,
-      stands_later xs (xs ++ p.0) (Asked r.conn r.session) (p.0, refl) may.1,
+    let began : List Act = Began s ∷ xs in
+    may_from s ys (Issued r) (prefix_trans (Began s ∷ []) began ys (xs, refl) p) (
+      answer_of_call_later s began ys (batches_of (stores_in xs)) (batches_of (stores_in ys)) r p (stored_rise began ys p) may.0,
+      stands_later began ys (Asked r.conn r.session) p may.1,
     )
-issued_may (Cut b ∷ xs) ys r p may = absurd may
-issued_may (Stored b m ∷ xs) ys r p may = absurd may
-issued_may (Asked c s ∷ xs) ys r p may = absurd may
-issued_may (Called c s n q k ∷ xs) ys r p may = absurd may
-issued_may (Issued q ∷ xs) ys r p may = absurd may
+issued_may _ ys r p may = absurd may
 
 -- ---- what is always true of cuts and stores
 
@@ -249,45 +252,37 @@ sound_append : (begun : ServerState) (past : List Act) (a : Act) → IsSound beg
 sound_append begun past (Began s) sound may = absurd may
 sound_append begun past (Cut b) sound may =
     let cuts : cuts_in (past ++ Cut b ∷ []) ≡ cuts_in past ++ b ∷ [] = cuts_append past (Cut b ∷ []) in
-    let stores : stores_in past ≡ stores_in (past ++ Cut b ∷ []) = sym (stores_append past (Cut b ∷ []) ∙ append-nil (stores_in past)) in
     record {
-      balanced = inr (b, cuts ∙ ap (λ (bs : List Batch). bs ++ b ∷ []) (may.0 ∙ ap batches_of stores));
+      balanced = inr (b, cuts ∙ ap (λ (bs : List Batch). bs ++ b ∷ []) (may.0 ∙ ap batches_of (sym (no_stores past (Cut b) refl))));
       ordered = subst (λ (bs : List Batch). AreInOrder begun.place bs) (sym cuts) (order_append begun.place (cuts_in past) b sound.ordered may.1 may.2);
     }
 sound_append begun past (Stored b m) sound may =
-    let cuts : cuts_in past ≡ cuts_in (past ++ Stored b m ∷ []) = sym (cuts_append past (Stored b m ∷ []) ∙ append-nil (cuts_in past)) in
+    let cuts = no_cuts past (Stored b m) refl in
     let stores : batches_of (stores_in (past ++ Stored b m ∷ [])) ≡ batches_of (stores_in past) ++ b ∷ [] =
     ap batches_of (stores_append past (Stored b m ∷ [])) ∙ map-append (λ (s : Batch × ℕ). s.0) (stores_in past) ((b, m) ∷ []) in
-    record { balanced = inl (sym cuts ∙ may ∙ sym stores); ordered = subst (λ (bs : List Batch). AreInOrder begun.place bs) cuts sound.ordered }
-sound_append begun past (Asked c s) sound may =
-    let cuts : cuts_in past ≡ cuts_in (past ++ Asked c s ∷ []) = sym (cuts_append past (Asked c s ∷ []) ∙ append-nil (cuts_in past)) in
-    let stores : stores_in past ≡ stores_in (past ++ Asked c s ∷ []) = sym (stores_append past (Asked c s ∷ []) ∙ append-nil (stores_in past)) in
-    record { balanced = still past (past ++ Asked c s ∷ []) cuts stores sound.balanced; ordered = subst (λ (bs : List Batch). AreInOrder begun.place bs) cuts sound.ordered }
-sound_append begun past (Called c s n q p) sound may =
-    let cuts : cuts_in past ≡ cuts_in (past ++ Called c s n q p ∷ []) = sym (cuts_append past (Called c s n q p ∷ []) ∙ append-nil (cuts_in past)) in
-    let stores : stores_in past ≡ stores_in (past ++ Called c s n q p ∷ []) = sym (stores_append past (Called c s n q p ∷ []) ∙ append-nil (stores_in past)) in
-    record { balanced = still past (past ++ Called c s n q p ∷ []) cuts stores sound.balanced; ordered = subst (λ (bs : List Batch). AreInOrder begun.place bs) cuts sound.ordered }
-sound_append begun past (Issued r) sound may =
-    let cuts : cuts_in past ≡ cuts_in (past ++ Issued r ∷ []) = sym (cuts_append past (Issued r ∷ []) ∙ append-nil (cuts_in past)) in
-    let stores : stores_in past ≡ stores_in (past ++ Issued r ∷ []) = sym (stores_append past (Issued r ∷ []) ∙ append-nil (stores_in past)) in
-    record { balanced = still past (past ++ Issued r ∷ []) cuts stores sound.balanced; ordered = subst (λ (bs : List Batch). AreInOrder begun.place bs) cuts sound.ordered }
+    record { balanced = inl (cuts ∙ may ∙ sym stores); ordered = subst (λ (bs : List Batch). AreInOrder begun.place bs) (sym cuts) sound.ordered }
+sound_append begun past a sound may =
+    let cuts = sym (no_cuts past a refl) in
+    record {
+      balanced = still past (past ++ a ∷ []) cuts (sym (no_stores past a refl)) sound.balanced;
+      ordered = subst (λ (bs : List Batch). AreInOrder begun.place bs) cuts sound.ordered;
+    }
 
 sound_goes : (begun : ServerState) (past acts : List Act) → IsSound begun past → FollowEachOther begun past acts → IsSound begun (past ++ acts)
 sound_goes begun past [] sound goes = subst (IsSound begun) (sym (append-nil past)) sound
 sound_goes begun past (a ∷ acts) sound goes = subst (IsSound begun) (append_assoc past (a ∷ []) acts) (sound_goes begun (past ++ a ∷ []) acts (sound_append begun past a sound goes.0) goes.1)
 
-legal_sound : (begun : ServerState) (past acts : List Act) → acts ≡ Began begun ∷ past → IsLegal acts → IsSound begun past
-legal_sound begun past acts begins legal =
-    let whole : IsLegal (Began begun ∷ past) = subst IsLegal begins legal in
-    sound_goes begun [] past (record { balanced = inl refl; ordered = tt }) whole.1
+legal_sound : (begun : ServerState) (acts : List Act) → IsPrefix (Began begun ∷ []) acts → IsLegal acts → IsSound begun acts
+legal_sound begun acts begins legal =
+    subst (IsSound begun) begins.1 (sound_goes begun (Began begun ∷ []) begins.0 (record { balanced = inl refl; ordered = tt }) (subst IsLegal (sym begins.1) legal).1)
 
 -- what was stored was cut
-pub stored_cut : (begun : ServerState) (past acts : List Act) → acts ≡ Began begun ∷ past → IsLegal acts → IsPrefix (batches_of (stores_in acts)) (cuts_in acts)
-stored_cut begun past acts begins legal = subst (λ (xs : List Act). IsPrefix (batches_of (stores_in xs)) (cuts_in xs)) (sym begins) (by (legal_sound begun past acts begins legal).balanced)
-  where
-    by : IsBalanced past → IsPrefix (batches_of (stores_in past)) (cuts_in past)
-    by (inl all) = ([], append-nil (batches_of (stores_in past)) ∙ sym all)
-    by (inr (b, all)) = (b ∷ [], sym all)
+stored_first : (acts : List Act) → IsBalanced acts → IsPrefix (batches_of (stores_in acts)) (cuts_in acts)
+stored_first acts (inl all) = ([], append-nil (batches_of (stores_in acts)) ∙ sym all)
+stored_first acts (inr (b, all)) = (b ∷ [], sym all)
+
+pub stored_cut : (begun : ServerState) (acts : List Act) → IsPrefix (Began begun ∷ []) acts → IsLegal acts → IsPrefix (batches_of (stores_in acts)) (cuts_in acts)
+stored_cut begun acts begins legal = stored_first acts (legal_sound begun acts begins legal).balanced
 
 -- a batch of some that are in order begins no earlier than they do
 begins_later : (at : ℕ) (bs cs : List Batch) (c : Batch) → AreInOrder at (bs ++ c ∷ cs) → at ≤ c.first
@@ -318,18 +313,18 @@ one_first at (x ∷ xs) ys (z ∷ zs) ws b c order is first =
     (ap (λ (y : Batch). y ∷ xs) head ∙ ap (λ (t : List Batch). z ∷ t) rest.0, rest.1)
 
 -- two batches that were cut, and begin at one place, are the same
-pub one_cut : (begun : ServerState) (past acts : List Act) (xs zs : List Batch) (b c : Batch) → acts ≡ Began begun ∷ past → IsLegal acts → IsPrefix (xs ++ b ∷ []) (cuts_in acts) → IsPrefix (zs ++ c ∷ []) (cuts_in acts)
+pub one_cut : (begun : ServerState) (acts : List Act) (xs zs : List Batch) (b c : Batch) → IsPrefix (Began begun ∷ []) acts → IsLegal acts → IsPrefix (xs ++ b ∷ []) (cuts_in acts) → IsPrefix (zs ++ c ∷ []) (cuts_in acts)
     → b.first ≡ c.first → (xs ≡ zs) × (b ≡ c)
-one_cut begun past acts xs zs b c begins legal p q first =
-    let order : AreInOrder begun.place (cuts_in acts) = subst (λ (a : List Act). AreInOrder begun.place (cuts_in a)) (sym begins) (legal_sound begun past acts begins legal).ordered in
+one_cut begun acts xs zs b c begins legal p q first =
+    let order = (legal_sound begun acts begins legal).ordered in
     let here : xs ++ b ∷ p.0 ≡ cuts_in acts = sym (append_assoc xs (b ∷ []) p.0) ∙ p.1 in
     let there : zs ++ c ∷ q.0 ≡ cuts_in acts = sym (append_assoc zs (c ∷ []) q.0) ∙ q.1 in
     one_first begun.place xs p.0 zs q.0 b c (subst (λ (bs : List Batch). AreInOrder begun.place bs) (sym here) order) (here ∙ sym there) first
 
 -- so has each batch that was cut
-pub cut_few : (begun : ServerState) (past acts : List Act) (xs ys : List Batch) → acts ≡ Began begun ∷ past → IsLegal acts → IsPrefix (xs ++ ys) (cuts_in acts) → length xs ≤ length (entries_in xs)
-cut_few begun past acts xs ys begins legal p =
-    let order : AreInOrder begun.place (cuts_in acts) = subst (λ (a : List Act). AreInOrder begun.place (cuts_in a)) (sym begins) (legal_sound begun past acts begins legal).ordered in
+pub cut_few : (begun : ServerState) (acts : List Act) (xs ys : List Batch) → IsPrefix (Began begun ∷ []) acts → IsLegal acts → IsPrefix (xs ++ ys) (cuts_in acts) → length xs ≤ length (entries_in xs)
+cut_few begun acts xs ys begins legal p =
+    let order = (legal_sound begun acts begins legal).ordered in
     order_few begun.place xs (ys ++ p.0) (subst (λ (bs : List Batch). AreInOrder begun.place bs) (sym p.1 ∙ append_assoc xs ys p.0) order)
 
 pub cut_later : (xs ys : List Act) (count : ℕ) (batch : Batch) → IsPrefix xs ys → WasCut xs count batch → WasCut ys count batch
@@ -337,64 +332,40 @@ cut_later xs ys count batch p (before, size, cut) = (before, size, prefix_trans 
 
 -- ---- what may come next
 
--- a history that goes on from one that began so began so too
-pub begins_so : (begun : ServerState) (past xs ys : List Act) → xs ≡ Began begun ∷ past → IsPrefix xs ys → (rest : List Act) × (ys ≡ Began begun ∷ rest)
-begins_so begun past xs ys begins p = (past ++ p.0, sym p.1 ∙ ap (λ (zs : List Act). zs ++ p.0) begins)
-
--- what was called in a history was called after its beginning
-pub call_behind : (begun : ServerState) (past : List Act) → CallsAreIn (Began begun ∷ past) past
-call_behind begun past conn session number request place (zero, is) = absurd (cc is)
-call_behind begun past conn session number request place (suc k, is) = (k, is)
-
 -- a cut, where as many were cut as were stored before
 pub cut_may : (v log : List Act) (count : ℕ) (batch : Batch) → CutsAfter v count batch → IsPrefix v log → IsLegal log → length (cuts_in log) ≡ count → MayBeAppended log (Cut batch)
 cut_may v log count batch next pre legal here =
-    let (rest, begins) = begins_so next.begun next.past v log next.begins pre in
+    let begins = prefix_trans (Began next.begun ∷ []) v log next.begins pre in
     let stored : IsPrefix next.before (batches_of (stores_in log)) = prefix_trans next.before (batches_of (stores_in v)) (batches_of (stores_in log)) next.stored (stored_rise v log pre) in
-    let cut : IsPrefix (batches_of (stores_in log)) (cuts_in log) = stored_cut next.begun rest log begins legal in
+    let cut : IsPrefix (batches_of (stores_in log)) (cuts_in log) = stored_cut next.begun log begins legal in
     let few = prefix_length next.before (batches_of (stores_in log)) stored in
     let more = prefix_length (batches_of (stores_in log)) (cuts_in log) cut in
     let all : batches_of (stores_in log) ≡ next.before = prefix_whole next.before (batches_of (stores_in log)) stored (omega (arith, few, more, here, next.counted)) in
     let both : cuts_in log ≡ batches_of (stores_in log) = prefix_whole (batches_of (stores_in log)) (cuts_in log) cut (omega (arith, few, more, here, next.counted)) in
     let first : batch.first ≡ place_after next.begun (cuts_in log) = next.first ∙ ap (λ (bs : List Batch). place_after next.begun bs) (sym (both ∙ all)) in
-    subst (λ (zs : List Act). MayBeAppended zs (Cut batch)) (sym begins) (
-      subst (λ (zs : List Act). cuts_in zs ≡ batches_of (stores_in zs)) begins both,
-      subst (λ (zs : List Act). batch.first ≡ place_after next.begun (cuts_in zs)) begins first,
+    may_from next.begun log (Cut batch) begins (
+      both,
+      first,
       next.some,
-      entries_called next.begun (Began next.begun ∷ rest) rest (call_behind next.begun rest) (entries_in (cuts_in rest)) batch.entries
-          (subst (λ (zs : List Act). AreOfCalls next.begun zs (entries_in (cuts_in zs)) batch.entries) begins
-          (subst (λ (bs : List Batch). AreOfCalls next.begun log (entries_in bs) batch.entries) (sym (both ∙ all)) (entries_called_later next.begun v log (entries_in next.before) batch.entries pre next.called))),
+      subst (λ (bs : List Batch). AreOfCalls next.begun log (entries_in bs) batch.entries) (sym (both ∙ all)) (entries_called_later next.begun v log (entries_in next.before) batch.entries pre next.called),
     )
 
 -- a store of the batch that was cut next
 pub store_may : (v log : List Act) (count moment : ℕ) (batch : Batch) → WasCut v count batch → IsPrefix v log → IsLegal log → length (stores_in log) ≡ count → MayBeAppended log (Stored batch moment)
-store_may v [] count moment batch was pre legal here = absurd legal
-store_may v (Cut b ∷ log) count moment batch was pre legal here = absurd legal
-store_may v (Stored b m ∷ log) count moment batch was pre legal here = absurd legal
-store_may v (Asked c s ∷ log) count moment batch was pre legal here = absurd legal
-store_may v (Called c s n q k ∷ log) count moment batch was pre legal here = absurd legal
-store_may v (Issued q ∷ log) count moment batch was pre legal here = absurd legal
-store_may v (Began begun ∷ log) count moment batch (before, size, cut) pre legal here = by (legal_sound begun log (Began begun ∷ log) refl legal).balanced
-  where
-    there : IsPrefix (before ++ batch ∷ []) (cuts_in log)
-    there = prefix_trans (before ++ batch ∷ []) (cuts_in v) (cuts_in log) cut (cuts_rise v (Began begun ∷ log) pre)
-
-    stored : ℕ
-    stored = length (batches_of (stores_in log))
-
-    as_many : stored ≡ count
-    as_many = length-map (stores_in log) (λ (s : Batch × ℕ). s.0) ∙ here
-
-    by : IsBalanced log → MayFollow begun log (Stored batch moment)
-    by (inl all) =
-        let most = prefix_length (before ++ batch ∷ []) (cuts_in log) there in
-        absurd (omega (arith, most, length-append before (batch ∷ []), ap length all, as_many, size))
-    by (inr (b, all)) =
-        let one : length (cuts_in log) ≡ stored + 1 = ap length all ∙ length-append (batches_of (stores_in log)) (b ∷ []) in
-        let whole : cuts_in log ≡ before ++ batch ∷ [] =
-        prefix_whole (before ++ batch ∷ []) (cuts_in log) there (omega (arith, one, length-append before (batch ∷ []), as_many, size)) in
-        let same = fronts_same (batches_of (stores_in log)) before b batch (sym all ∙ whole) in
-        whole ∙ ap (λ (bs : List Batch). bs ++ batch ∷ []) (sym same.0)
+store_may v (Began begun ∷ log) count moment batch (before, size, cut) pre legal here =
+    let there = prefix_trans (before ++ batch ∷ []) (cuts_in v) (cuts_in log) cut (cuts_rise v (Began begun ∷ log) pre) in
+    let stored : List Batch = batches_of (stores_in log) in
+    let as_many : length stored ≡ count = length-map (stores_in log) (λ (s : Batch × ℕ). s.0) ∙ here in
+    elim (legal_sound begun (Began begun ∷ log) (log, refl) legal).balanced [
+      | inl all ↦
+          let most = prefix_length (before ++ batch ∷ []) (cuts_in log) there in
+          absurd (omega (arith, most, length-append before (batch ∷ []), ap length all, as_many, size))
+      | inr (b, all) ↦
+          let one : length (cuts_in log) ≡ length stored + 1 = ap length all ∙ length-append stored (b ∷ []) in
+          let whole = prefix_whole (before ++ batch ∷ []) (cuts_in log) there (omega (arith, one, length-append before (batch ∷ []), as_many, size)) in
+          whole ∙ ap (λ (bs : List Batch). bs ++ batch ∷ []) (sym (fronts_same stored before b batch (sym all ∙ whole)).0)
+    ]
+store_may v _ count moment batch was pre legal here = absurd legal
 
 -- with as many stores a beginning has all of them
 pub stores_same : (xs ys : List Act) → IsPrefix xs ys → length (stores_in ys) ≡ length (stores_in xs) → stores_in ys ≡ stores_in xs
@@ -421,31 +392,22 @@ stores_more xs ys p other = by (stores_in p.0) (sym (stores_append xs p.0) ∙ a
 -- ---- answers that were issued
 
 pub each_later : (rs : List Receipt) (xs ys : List Act) → IsPrefix xs ys → EachIssued rs xs → EachIssued rs ys
-each_later [] xs ys p issued = tt
-each_later (r ∷ rs) xs ys p issued = (stands_later xs ys (Issued r) p issued.0, each_later rs xs ys p issued.1)
+each_later rs xs ys p = all_weaker (λ r. StandsIn xs (Issued r)) (λ r. StandsIn ys (Issued r)) (λ r. stands_later xs ys (Issued r) p) rs
 
-pub each_both : (rs ts : List Receipt) (acts : List Act) → EachIssued rs acts → EachIssued ts acts → EachIssued (rs ++ ts) acts
-each_both [] ts acts one two = two
-each_both (r ∷ rs) ts acts one two = (one.0, each_both rs ts acts one.1 two)
-
-issued_option : (o : Option Receipt) (xs ys : List Act) → IsPrefix xs ys → IfSome o (λ r. StandsIn xs (Issued r)) → IfSome o (λ r. StandsIn ys (Issued r))
-issued_option None xs ys p issued = tt
-issued_option (Some r) xs ys p issued = stands_later xs ys (Issued r) p issued
-
-pub was_later : (n : ℕ) (m : Mail) (xs ys : List Act) → IsPrefix xs ys → WasIssued n m xs → WasIssued n m ys
-was_later n m xs ys p issued = issued_option (receipt_of n m) xs ys p issued
+pub are_later : (n : ℕ) (ms : List Mail) (xs ys : List Act) → IsPrefix xs ys → AreIssued n ms xs → AreIssued n ms ys
+are_later n ms xs ys p =
+    all_weaker (λ m. WasIssued n m xs) (λ m. WasIssued n m ys) (λ m issued. IfSome_then (receipt_of n m) issued (λ (r : Receipt). stands_later xs ys (Issued r) p)) ms
 
 -- what was issued to a connection, and then to the same
 pub issued_both : (n k : ℕ) (ms ns : List Mail) (xs ys : List Act) → k ≡ n → IsPrefix xs ys → AreIssued n ms xs → AreIssued k ns ys → AreIssued n (ms ++ ns) ys
-issued_both n k [] ns xs ys same p one two = subst (λ (j : ℕ). AreIssued j ns ys) same two
-issued_both n k (m ∷ ms) ns xs ys same p one two = (was_later n m xs ys p one.0, issued_both n k ms ns xs ys same p one.1 two)
+issued_both n k ms ns xs ys same p one two = all_append (λ m. WasIssued n m ys) ms ns (are_later n ms xs ys p one) (subst (λ (j : ℕ). AreIssued j ns ys) same two)
 
 each_option : (o : Option Receipt) (rs : List Receipt) (acts : List Act) → IfSome o (λ r. StandsIn acts (Issued r)) → EachIssued rs acts → EachIssued (cons_option o rs) acts
 each_option None rs acts one all = all
 each_option (Some r) rs acts one all = (one, all)
 
 -- the receipts of mails
-each_of : (n : ℕ) (ms : List Mail) (acts : List Act) → AreIssued n ms acts → EachIssued (filter_map (receipt_of n) ms) acts
+pub each_of : (n : ℕ) (ms : List Mail) (acts : List Act) → AreIssued n ms acts → EachIssued (filter_map (receipt_of n) ms) acts
 each_of n [] acts issued = tt
 each_of n (m ∷ ms) acts issued = each_option (receipt_of n m) (filter_map (receipt_of n) ms) acts issued.0 (each_of n ms acts issued.1)
 
@@ -462,46 +424,22 @@ pub gathered_issued : {A E : Type 0} (added : Result A E) (old new : ReceiptList
     → OnErr added (new ≡ record old { whole = false }) → IsPrefix xs zs → IsPrefix ys zs → EachIssued old.items xs → EachIssued others ys → EachIssued new.items zs
 gathered_issued (Ok a) old new others slice xs ys zs same ok err p q one two =
     subst (λ (rs : List Receipt). EachIssued rs zs) (ap (λ (rs : List Receipt). old.items ++ rs) (sym same) ∙ sym (ap (λ (l : ReceiptList). l.items) ok))
-    (each_both old.items others zs (each_later old.items xs zs p one) (each_later others ys zs q two))
+    (all_append (λ r. StandsIn zs (Issued r)) old.items others (each_later old.items xs zs p one) (each_later others ys zs q two))
 gathered_issued (Err e) old new others slice xs ys zs same ok err p q one two =
     subst (λ (rs : List Receipt). EachIssued rs zs) (sym (ap (λ (l : ReceiptList). l.items) err)) (each_later old.items xs zs p one)
 
--- each entry of a batch that was cut finishes a request that had been called
-pub cut_called : (begun : ServerState) (acts earlier later : List Act) (b : Batch) → FollowEachOther begun [] acts → acts ≡ earlier ++ Cut b ∷ later
-    → AreOfCalls begun earlier (entries_in (cuts_in earlier)) b.entries
-cut_called begun acts earlier later b goes is = (goes_at begun [] earlier later (Cut b) (subst (λ (a : List Act). FollowEachOther begun [] a) is goes)).3
-
--- an answer that was issued is of a session that its connection had asked for
-pub issued_asked : (begun : ServerState) (acts earlier later : List Act) (r : Receipt) → FollowEachOther begun [] acts → acts ≡ earlier ++ Issued r ∷ later → StandsIn earlier (Asked r.conn r.session)
-issued_asked begun acts earlier later r goes is = (goes_at begun [] earlier later (Issued r) (subst (λ (a : List Act). FollowEachOther begun [] a) is goes)).1
-
--- a call is of a session that its connection had asked for
-pub called_asked : (begun : ServerState) (acts earlier later : List Act) (conn session number : ℕ) (request : Request) (place : ℕ) → FollowEachOther begun [] acts
-    → acts ≡ earlier ++ Called conn session number request place ∷ later → StandsIn earlier (Asked conn session)
-called_asked begun acts earlier later conn session number request place goes is =
-    goes_at begun [] earlier later (Called conn session number request place) (subst (λ (a : List Act). FollowEachOther begun [] a) is goes)
-
 -- ---- the call of an answer
-
--- a beginning of acts that follow each other follows too
-goes_front : (begun : ServerState) (past xs ys : List Act) → FollowEachOther begun past (xs ++ ys) → FollowEachOther begun past xs
-goes_front begun past [] ys goes = tt
-goes_front begun past (x ∷ xs) ys goes = (goes.0, goes_front begun (past ++ x ∷ []) xs ys goes.1)
 
 -- a batch among those that were cut was cut by an act
 cut_act : (acts : List Act) (front back : List Batch) (b : Batch) → cuts_in acts ≡ front ++ b ∷ back → (earlier later : List Act) × (acts ≡ earlier ++ Cut b ∷ later)
 cut_act [] front back b is = absurd (omega (arith, ap length is, length-append front (b ∷ back)))
-cut_act (Began s ∷ acts) front back b is = let r = cut_act acts front back b is in (Began s ∷ r.0, r.1, ap (λ (zs : List Act). Began s ∷ zs) r.2)
 cut_act (Cut c ∷ acts) [] back b is =
     let head : c ≡ b = cc is in
     ([], acts, ap (λ (x : Batch). Cut x ∷ acts) head)
 cut_act (Cut c ∷ acts) (x ∷ front) back b is =
     let tail : cuts_in acts ≡ front ++ b ∷ back = cc is in
     let r = cut_act acts front back b tail in (Cut c ∷ r.0, r.1, ap (λ (zs : List Act). Cut c ∷ zs) r.2)
-cut_act (Stored c m ∷ acts) front back b is = let r = cut_act acts front back b is in (Stored c m ∷ r.0, r.1, ap (λ (zs : List Act). Stored c m ∷ zs) r.2)
-cut_act (Asked c s ∷ acts) front back b is = let r = cut_act acts front back b is in (Asked c s ∷ r.0, r.1, ap (λ (zs : List Act). Asked c s ∷ zs) r.2)
-cut_act (Called c s n q p ∷ acts) front back b is = let r = cut_act acts front back b is in (Called c s n q p ∷ r.0, r.1, ap (λ (zs : List Act). Called c s n q p ∷ zs) r.2)
-cut_act (Issued q ∷ acts) front back b is = let r = cut_act acts front back b is in (Issued q ∷ r.0, r.1, ap (λ (zs : List Act). Issued q ∷ zs) r.2)
+cut_act (a ∷ acts) front back b is = let r = cut_act acts front back b is in (a ∷ r.0, r.1, ap (λ (zs : List Act). a ∷ zs) r.2)
 
 -- an entry of two lists is in the first, or in the second
 split_at : (xs ys before behind : List Entry) (e : Entry) → xs ++ ys ≡ before ++ e ∷ behind
@@ -560,41 +498,21 @@ all_at begun acts front (x ∷ es) (suc k) e all is =
     subst (λ (xs : List Entry). FinishesOnly (WasCalledSince begun acts xs) e) (append_assoc front (x ∷ []) (take k es)) (all_at begun acts (front ++ x ∷ []) es k e all.1 is)
 
 -- an answer that was issued is that of a request that was called: since the beginning if it was kept then, or before its batch was cut
-pub issued_of_call : (begun : ServerState) (acts earlier later : List Act) (r : Receipt) → FollowEachOther begun [] acts → acts ≡ earlier ++ Issued r ∷ later → (request : Request) × IsAnswerOf begun earlier r request
-issued_of_call begun acts earlier later r goes is = by may.0
-  where
-    goes' : FollowEachOther begun [] (earlier ++ Issued r ∷ later)
-    goes' = subst (λ (a : List Act). FollowEachOther begun [] a) is goes
-
-    may : MayFollow begun earlier (Issued r)
-    may = goes_at begun [] earlier later (Issued r) goes'
-
-    goes_earlier : FollowEachOther begun [] earlier
-    goes_earlier = goes_front begun [] earlier (Issued r ∷ later) goes'
-
-    sound : IsSound begun earlier
-    sound = sound_goes begun [] earlier (record { balanced = inl refl; ordered = tt }) goes_earlier
-
-    stored : List Batch
-    stored = batches_of (stores_in earlier)
-
-    rest : (more : List Batch) × (cuts_in earlier ≡ stored ++ more)
-    rest = of sound.balanced
-      where
-        of : IsBalanced earlier → (more : List Batch) × (cuts_in earlier ≡ stored ++ more)
-        of (inl all) = ([], all ∙ sym (append-nil stored))
-        of (inr (b, all)) = (b ∷ [], all)
-
-    by : IsAnswerOfCall begun earlier (entries_in stored) r → (request : Request) × IsAnswerOf begun earlier r request
-    by (inl (kept, called)) = (kept.request, IsAnswerOf.Before kept.kept called)
-    by (inr f) =
-        let e : Entry = Finished r.session r.number f.request r.answer in
-        let b = in_batch begun.place stored rest.0 f.before f.behind e (subst (λ (bs : List Batch). AreInOrder begun.place bs) rest.1 sound.ordered) f.entries in
-        let cuts : cuts_in earlier ≡ b.front ++ b.batch ∷ (b.back ++ rest.0) =
-        rest.1 ∙ ap (λ (bs : List Batch). bs ++ rest.0) b.batches ∙ append_assoc b.front (b.batch ∷ b.back) rest.0 in
-        let act = cut_act earlier b.front (b.back ++ rest.0) b.batch cuts in
-        let all : AreOfCalls begun act.0 (entries_in (cuts_in act.0)) b.batch.entries = cut_called begun earlier act.0 act.1 b.batch goes_earlier act.2 in
-        (f.request, IsAnswerOf.Since act.0 act.1 b.batch b.k act.2 (all_at begun act.0 (entries_in (cuts_in act.0)) b.batch.entries b.k e all b.there) b.there (f.at ∙ b.place))
+pub issued_of_call : (begun : ServerState) (acts earlier later : List Act) (r : Receipt) → IsLegal acts → IsPrefix (Began begun ∷ []) acts → acts ≡ earlier ++ Issued r ∷ later → (request : Request) × IsAnswerOf begun earlier r request
+issued_of_call begun acts earlier later r whole began is =
+    let (may, legal, begins) = may_at begun acts earlier later (Issued r) whole began is (λ e. cc e) in
+    let sound = legal_sound begun earlier begins legal in
+    let (rest, all_cut) = stored_first earlier sound.balanced in
+    elim may.0 [
+      | inl k ↦ (k.0.request, IsAnswerOf.Before k.0.kept k.1)
+      | inr f ↦
+          let ordered = subst (λ (bs : List Batch). AreInOrder begun.place bs) (sym all_cut) sound.ordered in
+          let b = in_batch begun.place (batches_of (stores_in earlier)) rest f.before f.behind (Finished r.session r.number f.request r.answer) ordered f.entries in
+          let cuts = sym all_cut ∙ ap (λ (bs : List Batch). bs ++ rest) b.batches ∙ append_assoc b.front (b.batch ∷ b.back) rest in
+          let act = cut_act earlier b.front (b.back ++ rest) b.batch cuts in
+          let all = (may_at begun earlier act.0 act.1 (Cut b.batch) legal begins act.2 (λ e. cc e)).0.3 in
+          (f.request, IsAnswerOf.Since act.0 act.1 b.batch b.k act.2 (all_at begun act.0 (entries_in (cuts_in act.0)) b.batch.entries b.k _ all b.there) b.there (f.at ∙ b.place))
+    ]
 
 -- ---- real time
 
@@ -603,51 +521,17 @@ place_grows begun xs ys p = omega (arith, ap length (ap entries_in p.1), ap leng
 
 -- What was issued before a batch was cut has a place before all of that batch. So an answer that was issued before a request was called for
 -- the first time has a place before that request's.
-pub issued_before_cut : (begun : ServerState) (acts earlier between later : List Act) (r : Receipt) (b : Batch) → FollowEachOther begun [] acts
+pub issued_before_cut : (begun : ServerState) (acts earlier between later : List Act) (r : Receipt) (b : Batch) → IsLegal acts → IsPrefix (Began begun ∷ []) acts
     → acts ≡ (earlier ++ Issued r ∷ between) ++ Cut b ∷ later → r.place < b.first
-issued_before_cut begun acts earlier between later r b goes is = omega (arith, below, grows, cut.1)
-  where
-    goes' : FollowEachOther begun [] ((earlier ++ Issued r ∷ between) ++ Cut b ∷ later)
-    goes' = subst (λ (a : List Act). FollowEachOther begun [] a) is goes
-
-    cut : MayFollow begun (earlier ++ Issued r ∷ between) (Cut b)
-    cut = goes_at begun [] (earlier ++ Issued r ∷ between) later (Cut b) goes'
-
-    goes_front' : FollowEachOther begun [] (earlier ++ Issued r ∷ between)
-    goes_front' = goes_front begun [] (earlier ++ Issued r ∷ between) (Cut b ∷ later) goes'
-
-    may : MayFollow begun earlier (Issued r)
-    may = goes_at begun [] earlier between (Issued r) goes_front'
-
-    grows : place_after begun (batches_of (stores_in earlier)) ≤ place_after begun (cuts_in (earlier ++ Issued r ∷ between))
-    grows =
-        place_grows begun (batches_of (stores_in earlier)) (cuts_in (earlier ++ Issued r ∷ between))
-        (subst (λ (bs : List Batch). IsPrefix (batches_of (stores_in earlier)) bs) (sym cut.0) (stored_rise earlier (earlier ++ Issued r ∷ between) (Issued r ∷ between, refl)))
-
-    below : r.place < place_after begun (batches_of (stores_in earlier))
-    below = of may.0
-      where
-        of : IsAnswerOfCall begun earlier (entries_in (batches_of (stores_in earlier))) r → r.place < place_after begun (batches_of (stores_in earlier))
-        of (inl (kept, called)) = let first = kept.earlier in omega (arith, first)
-        of (inr f) = omega (arith, f.at, ap length f.entries, length-append f.before (Finished r.session r.number f.request r.answer ∷ f.behind))
-
--- ---- with one more act before the others
-
-pub stands_with : (first : Act) (acts : List Act) (a : Act) → StandsIn acts a → StandsIn (first ∷ acts) a
-stands_with first acts a (at, is) = (suc at, is)
-
-pub called_with : (first : Act) (acts : List Act) (session number : ℕ) (request : Request) → WasCalled acts session number request → WasCalled (first ∷ acts) session number request
-called_with first acts session number request (conn, place, called) = (conn, place, stands_with first acts (Called conn session number request place) called)
-
-calls_with : (first : Act) (acts : List Act) → CallsAreIn acts (first ∷ acts)
-calls_with first acts conn session number request place = stands_with first acts (Called conn session number request place)
-
-pub entries_called_with : (begun : ServerState) (first : Act) (acts : List Act) (front es : List Entry) → AreOfCalls begun acts front es → AreOfCalls begun (first ∷ acts) front es
-entries_called_with begun first acts front es = entries_called begun acts (first ∷ acts) (calls_with first acts) front es
-
--- the first act of a history is its beginning, and cuts nothing
-pub answer_of_with : (begun : ServerState) (acts : List Act) (r : Receipt) (request : Request) → IsAnswerOf begun acts r request → IsAnswerOf begun (Began begun ∷ acts) r request
-answer_of_with begun acts r request (IsAnswerOf.Before kept called) = IsAnswerOf.Before kept (called_with (Began begun) acts r.session r.number request called)
-answer_of_with begun acts r request (IsAnswerOf.Since earlier later batch at is called there place) =
-    IsAnswerOf.Since (Began begun ∷ earlier) later batch at (ap (λ (zs : List Act). Began begun ∷ zs) is)
-    (since_in begun earlier (Began begun ∷ earlier) (entries_in (cuts_in earlier) ++ take at batch.entries) r.session r.number request (calls_with (Began begun) earlier) called) there place
+issued_before_cut begun acts earlier between later r b whole began is =
+    let front : List Act = earlier ++ Issued r ∷ between in
+    let (cut, legal, begins) = may_at begun acts front later (Cut b) whole began is (λ e. cc e) in
+    let stored : List Batch = batches_of (stores_in earlier) in
+    let rises : IsPrefix stored (cuts_in front) = subst (λ (bs : List Batch). IsPrefix stored bs) (sym cut.0) (stored_rise earlier front (Issued r ∷ between, refl)) in
+    let grows = place_grows begun stored (cuts_in front) rises in
+    let below : r.place < place_after begun stored =
+    elim (may_at begun front earlier between (Issued r) legal begins refl (λ e. cc e)).0.0 [
+      | inl k ↦ let first = k.0.earlier in omega (arith, first)
+      | inr f ↦ omega (arith, f.at, ap length f.entries, length-append f.before (Finished r.session r.number f.request r.answer ∷ f.behind))
+    ] in
+    omega (arith, below, grows, cut.1)

@@ -1,10 +1,10 @@
 -- Whether lists of messages have a call after an attach.
-use Rattle.std.proofs.Common.{◌≡◌, ◌↔◌, ◌⊎◌, inl, inr, ℕ, ◌+◌, ◌-◌, ◌<◌, ◌≤◌, Bool, true, false, IsTrue, List, map, length, take, drop, get_or, slice_get, Some, None, true≢false, refl, sym, ap, subst, ◌∙◌, arith, length-drop}
+use Rattle.std.proofs.Common.{◌≡◌, ◌↔◌, ◌⊎◌, inl, inr, ℕ, ◌+◌, ◌-◌, ◌<◌, ◌≤◌, Bool, true, false, IsTrue, List, map, length, take, drop, get_or, slice_get, Some, true≢false, refl, sym, ap, subst, ◌∙◌, arith, length-drop}
 use Rattle.std.specs.Prelude.{All, Any, HoldsAt}
 use Rattle.std.specs.Bool.{MatchBool}
 use Rattle.std.specs.List.{AllWithin}
 use Rattle.std.proofs.lemmas.Bool.{cases_lt}
-use Rattle.std.proofs.lemmas.List.{get_or-drop, length-map, get_or-map, take_all}
+use Rattle.std.proofs.lemmas.List.{get_or-drop, length-map, get_or-map, map-id, take_all}
 use Rattle.std.proofs.lemmas.List.Elements.{All-map, All-from_all_within}
 use Rattle.std.proofs.lemmas.Option.{slice_get_within, slice_get-get_or, get_or_from_slice_get, slice_get_cases}
 use Rattle.fe_state.specs.declared.request.Request.{Request}
@@ -69,53 +69,40 @@ module _ (xs : List ClientMessage) (session number : ℕ) (request : Request) wh
     λ c. absurd (none c.attach (Attach session) (omega arith) (slice_get_within xs c.attach (Attach session) c.is_attach) (get_or_from_slice_get xs c.attach (Attach session) (Attach session) c.is_attach)),
   )
 
--- ---- what was answered of the elements of a list
+-- ---- what was answered of the elements of a list, which are seen through a function
 
-module _ {X : Type 0} (P : X → Type 0) (xs : List X) where
-  some_here : (k : ℕ) → k < length xs → HoldsAt P xs k → Any P xs
-  some_here k within holds = by_case (slice_get_cases xs k).1
-    where
-      by_case : ((x : X) × (k < length xs) × (slice_get xs k ≡ Some x) × (get_or xs k x ≡ x)) ⊎ ((length xs ≤ k) × (slice_get xs k ≡ None)) → Any P xs
-      by_case (inl x) = (k, x.0, within, x.3, subst P x.3 (holds x.0))
-      by_case (inr past) = absurd (omega (arith, past.0, within))
+module _ {X Y : Type 0} (f : X → Y) (xs : List X) where
+  -- an element, and what is seen of it
+  element : (k : ℕ) → k < length xs → (x : X) × (k < length (map f xs)) × (get_or xs k x ≡ x) × (get_or (map f xs) k (f x) ≡ f x)
+  element k within = elim (slice_get_cases xs k).1 [
+    | inl x ↦ (x.0, omega (arith, length-map xs f, within), x.3, get_or-map f xs k x.0 (f x.0) within ∙ ap f x.3)
+    | inr past ↦ absurd (omega (arith, past.0, within))
+  ]
 
-  pub any_holds : (r : Bool) → MatchBool r ((k : ℕ) × (k < length xs) × HoldsAt P xs k) (AllWithin (λ x. P x → ⊥) xs 0 (length xs)) → IsTrue r ↔ Any P xs
-  any_holds true one = (λ _. some_here one.0 one.1 one.2, λ _. refl)
-  any_holds false none = (λ e. absurd (true≢false (sym e)), λ a. absurd (none a.0 a.1 (omega arith) a.2 (subst P (sym a.3) a.4)))
+  pub any_decided : (P : Y → Type 0) (r : Bool) → MatchBool r ((k : ℕ) × (k < length xs) × HoldsAt (λ x. P (f x)) xs k) (AllWithin (λ x. P (f x) → ⊥) xs 0 (length xs)) → IsTrue r ↔ Any P (map f xs)
+  any_decided P true found = let e = element found.0 found.1 in (λ _. (found.0, f e.0, e.1, e.3, subst (λ y. P (f y)) e.2 (found.2 e.0)), λ _. refl)
+  any_decided P false none = (
+    λ e. absurd (true≢false (sym e)),
+    λ a.
+        let within : a.0 < length xs = omega (arith, length-map xs f, a.2) in
+        let e = element a.0 within in
+        absurd (none a.0 e.0 (omega arith) within (subst P (sym a.3 ∙ get_or-map f xs a.0 e.0 a.1 within) a.4)),
+  )
 
--- ---- lists that are seen through a function
+  module _ (P Q : Y → Type 0) (apart : (y : Y) → P y → Q y → ⊥) where
+    -- what was answered of all of them
+    abbrev pub AllAnswer : Bool → Type 0
+    AllAnswer r = MatchBool r (AllWithin (λ x. P (f x)) xs 0 (length xs)) ((k : ℕ) × (k < length xs) × HoldsAt (λ x. Q (f x)) xs k)
 
-module _ {X Y : Type 0} (f : X → Y) (P : Y → Type 0) (xs : List X) where
-  some : (k : ℕ) → k < length xs → HoldsAt (λ x. P (f x)) xs k → Any P (map f xs)
-  some k within holds = by_case (slice_get_cases xs k).1
-    where
-      by_case : ((x : X) × (k < length xs) × (slice_get xs k ≡ Some x) × (get_or xs k x ≡ x)) ⊎ ((length xs ≤ k) × (slice_get xs k ≡ None)) → Any P (map f xs)
-      by_case (inl x) = (k, f x.0, omega (arith, length-map xs f, within), get_or-map f xs k x.0 (f x.0) within ∙ ap f x.3, subst (λ y. P (f y)) x.3 (holds x.0))
-      by_case (inr past) = absurd (omega (arith, past.0, within))
+    pub all_hold : (r : Bool) → AllAnswer r → r ≡ true → All P (map f xs)
+    all_hold true all e = All-map P f xs (All-from_all_within (λ x. P (f x)) xs all)
+    all_hold false all e = absurd (true≢false (sym e))
 
-  pub any_decided : (r : Bool) → MatchBool r ((k : ℕ) × (k < length xs) × HoldsAt (λ x. P (f x)) xs k) (AllWithin (λ x. P (f x) → ⊥) xs 0 (length xs)) → IsTrue r ↔ Any P (map f xs)
-  any_decided true found = (λ _. some found.0 found.1 found.2, λ _. refl)
-  any_decided false none = (λ e. absurd (true≢false (sym e)), λ a. absurd (by_case a (slice_get_cases xs a.0).1))
-    where
-      by_case : (a : Any P (map f xs)) → ((x : X) × (a.0 < length xs) × (slice_get xs a.0 ≡ Some x) × (get_or xs a.0 x ≡ x)) ⊎ ((length xs ≤ a.0) × (slice_get xs a.0 ≡ None)) → ⊥
-      by_case a (inl x) = none a.0 x.0 (omega arith) x.1 (subst P (sym a.3 ∙ get_or-map f xs a.0 x.0 a.1 x.1) a.4)
-      by_case a (inr past) = absurd (omega (arith, past.0, a.2, length-map xs f))
+    pub one_does_not : (r : Bool) → AllAnswer r → r ≡ false → All P (map f xs) → ⊥
+    one_does_not true one e all = absurd (true≢false e)
+    one_does_not false one e all =
+        let x = element one.0 one.1 in
+        apart (f x.0) (subst P x.3 (all one.0 (f x.0) x.1)) (subst (λ y. Q (f y)) x.2 (one.2 x.0))
 
-module _ {X Y : Type 0} (f : X → Y) (P Q : Y → Type 0) (apart : (y : Y) → P y → Q y → ⊥) (xs : List X) where
-  -- what was answered of all of them
-  abbrev pub AllAnswer : Bool → Type 0
-  AllAnswer r = MatchBool r (AllWithin (λ x. P (f x)) xs 0 (length xs)) ((k : ℕ) × (k < length xs) × HoldsAt (λ x. Q (f x)) xs k)
-
-  pub all_hold : (r : Bool) → AllAnswer r → r ≡ true → All P (map f xs)
-  all_hold true all e = All-map P f xs (All-from_all_within (λ x. P (f x)) xs all)
-  all_hold false all e = absurd (true≢false (sym e))
-
-  pub one_does_not : (r : Bool) → AllAnswer r → r ≡ false → All P (map f xs) → ⊥
-  one_does_not true one e all = absurd (true≢false e)
-  one_does_not false one e all = by_case (slice_get_cases xs one.0).1
-    where
-      by_case : ((x : X) × (one.0 < length xs) × (slice_get xs one.0 ≡ Some x) × (get_or xs one.0 x ≡ x)) ⊎ ((length xs ≤ one.0) × (slice_get xs one.0 ≡ None)) → ⊥
-      by_case (inl x) =
-          let there : one.0 < length (map f xs) = omega (arith, length-map xs f, one.1) in
-          apart (f x.0) (subst P (get_or-map f xs one.0 x.0 (f x.0) one.1 ∙ ap f x.3) (all one.0 (f x.0) there)) (subst (λ y. Q (f y)) x.3 (one.2 x.0))
-      by_case (inr past) = absurd (omega (arith, past.0, one.1))
+pub any_holds : {X : Type 0} (P : X → Type 0) (xs : List X) (r : Bool) → MatchBool r ((k : ℕ) × (k < length xs) × HoldsAt P xs k) (AllWithin (λ x. P x → ⊥) xs 0 (length xs)) → IsTrue r ↔ Any P xs
+any_holds {X} P xs r answer = subst (λ (ys : List X). IsTrue r ↔ Any P ys) (map-id xs) (any_decided (λ x. x) xs P r answer)

@@ -24,22 +24,14 @@ use Rattle.fe_history.specs.Receipts.{receipt_of}
 -- the batches that were cut
 abbrev pub cuts_in : List Act → List Batch
 cuts_in [] = []
-cuts_in (Began state ∷ acts) = cuts_in acts
 cuts_in (Cut batch ∷ acts) = batch ∷ cuts_in acts
-cuts_in (Stored batch moment ∷ acts) = cuts_in acts
-cuts_in (Asked conn session ∷ acts) = cuts_in acts
-cuts_in (Called conn session number request place ∷ acts) = cuts_in acts
-cuts_in (Issued r ∷ acts) = cuts_in acts
+cuts_in (_ ∷ acts) = cuts_in acts
 
 -- the batches that were stored, each with the moment at which its append had ended
 abbrev pub stores_in : List Act → List (Batch × ℕ)
 stores_in [] = []
-stores_in (Began state ∷ acts) = stores_in acts
-stores_in (Cut batch ∷ acts) = stores_in acts
 stores_in (Stored batch moment ∷ acts) = (batch, moment) ∷ stores_in acts
-stores_in (Asked conn session ∷ acts) = stores_in acts
-stores_in (Called conn session number request place ∷ acts) = stores_in acts
-stores_in (Issued r ∷ acts) = stores_in acts
+stores_in (_ ∷ acts) = stores_in acts
 
 -- the act is one of these acts
 abbrev pub StandsIn : List Act → Act → Type 0
@@ -118,23 +110,13 @@ FollowEachOther begun past (a ∷ acts) = MayFollow begun past a × FollowEachOt
 -- the history of a hall begins once, with a state within the limits, and then each act may follow those
 -- before it
 abbrev pub IsLegal : List Act → Type 0
-IsLegal [] = ⊥
-IsLegal (Began state ∷ acts) = IsWithinLimits state × FollowEachOther state [] acts
-IsLegal (Cut batch ∷ acts) = ⊥
-IsLegal (Stored batch moment ∷ acts) = ⊥
-IsLegal (Asked conn session ∷ acts) = ⊥
-IsLegal (Called conn session number request place ∷ acts) = ⊥
-IsLegal (Issued r ∷ acts) = ⊥
+IsLegal (Began state ∷ acts) = IsWithinLimits state × FollowEachOther state (Began state ∷ []) acts
+IsLegal _ = ⊥
 
 -- the act may come after this history
 abbrev pub MayBeAppended : List Act → Act → Type 0
-MayBeAppended [] a = ⊥
-MayBeAppended (Began state ∷ past) a = MayFollow state past a
-MayBeAppended (Cut batch ∷ past) a = ⊥
-MayBeAppended (Stored batch moment ∷ past) a = ⊥
-MayBeAppended (Asked conn session ∷ past) a = ⊥
-MayBeAppended (Called conn session number request place ∷ past) a = ⊥
-MayBeAppended (Issued r ∷ past) a = ⊥
+MayBeAppended (Began state ∷ past) a = MayFollow state (Began state ∷ past) a
+MayBeAppended _ a = ⊥
 
 -- The answer of the receipt is that of this very request, which some connection called in these acts, under
 -- its number of its session: it was kept from the beginning, and called since; or it took effect at its place
@@ -169,8 +151,7 @@ WasStoredLast acts batch =
 
 -- the answer of each receipt was issued
 abbrev pub EachIssued : List Receipt → List Act → Type 0
-EachIssued [] acts = Unit {0}
-EachIssued (r ∷ receipts) acts = StandsIn acts (Issued r) × EachIssued receipts acts
+EachIssued receipts acts = AllByRecursion (λ r. StandsIn acts (Issued r)) receipts
 
 -- if the mail is an answer, it was issued to this connection
 abbrev pub WasIssued : ℕ → Mail → List Act → Type 0
@@ -178,8 +159,7 @@ WasIssued conn mail acts = IfSome (receipt_of conn mail) (λ r. StandsIn acts (I
 
 -- each answer among these mails was issued to this connection
 abbrev pub AreIssued : ℕ → List Mail → List Act → Type 0
-AreIssued conn [] acts = Unit {0}
-AreIssued conn (m ∷ mails) acts = WasIssued conn m acts × AreIssued conn mails acts
+AreIssued conn mails acts = AllByRecursion (λ m. WasIssued conn m acts) mails
 
 -- the receipts of the write side of a connection, and a history in which their answers were issued
 pub record Receipts : Type 0 where

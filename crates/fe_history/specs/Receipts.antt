@@ -16,12 +16,7 @@ use Rattle.fe_history.specs.declared.receipt.Receipt.{Receipt}
 abbrev pub receipt_of : ℕ → Mail → Option Receipt
 receipt_of conn (mail.Answer session number answer place) =
     Some (record { conn = conn; session = session; number = number; answer = answer; place = place })
-receipt_of conn (mail.Welcome session floor) = None
-receipt_of conn (mail.Refused number refusal) = None
-receipt_of conn (mail.Withdrawn number) = None
-receipt_of conn (mail.Settled floor) = None
-receipt_of conn (mail.Goodbye session) = None
-receipt_of conn (mail.Report text) = None
+receipt_of conn _ = None
 
 -- the state keeps this for a number of a session
 abbrev pub Keeps : ServerState → ℕ → ℕ → Kept → Type 0

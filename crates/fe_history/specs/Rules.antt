@@ -9,8 +9,7 @@ use Rattle.fe_state.specs.State.{ServerState}
 use Rattle.fe_state.specs.declared.batch.Batch.{Batch}
 use Rattle.fe_state.specs.declared.request.Request.{Request}
 use Rattle.fe_wire.specs.declared.client_message.ClientMessage.{ClientMessage}
-use Rattle.fe_wire.specs.declared.client_message.ClientMessage.TheVariants.{Attach, Call, Cancel, Settle, Bye}
-use Rattle.fe_wire.specs.declared.client_message.ClientMessage.TheVariants.{Report}
+use Rattle.fe_wire.specs.declared.client_message.ClientMessage.TheVariants.{Attach, Call}
 use Rattle.fe_front.specs.Front.{FrontState}
 use Rattle.fe_history.specs.declared.act.Act.{Act}
 use Rattle.fe_history.specs.declared.act.Act.TheVariants.{Asked, Called, Began}
@@ -43,8 +42,7 @@ pending_batch f = record { first = f.durable; entries = f.service.pending }
 -- closed since.
 pub record CutsAfter (acts : List Act) (count : ℕ) (batch : Batch) : Type 0 where
   pub begun : ServerState
-  pub past : List Act
-  pub begins : acts ≡ Began begun ∷ past
+  pub begins : IsPrefix (Began begun ∷ []) acts
   pub before : List Batch
   pub stored : IsPrefix before (batches_of (stores_in acts))
   pub counted : count ≡ length before
@@ -70,24 +68,16 @@ HearsCall before conn (Some session) place number request after =
 abbrev pub Hears : List Act → ℕ → Option ℕ → ℕ → ClientMessage → List Act → Type 0
 Hears before conn had place (Attach session) after = WasAppended before (Asked conn session) after
 Hears before conn had place (Call number request) after = HearsCall before conn had place number request after
-Hears before conn had place (Cancel number) after = after ≡ before
-Hears before conn had place (Settle floor) after = after ≡ before
-Hears before conn had place Bye after = after ≡ before
-Hears before conn had place Report after = after ≡ before
+Hears before conn had place _ after = after ≡ before
 
 -- the act was added, and the history is legal
 abbrev pub Adds : Step Act → View Act ℕ → ℕ → View Act ℕ → Type 0
 Adds s v found w = WasAppended v.0 s.ask w.0 × IsLegal w.0
 
--- the cut was added if as many batches had been cut as were expected
-abbrev pub CutsNext : Step Act → View Act ℕ → ℕ → View Act ℕ → Type 0
-CutsNext s v found w = MatchBool (found == s.old)
-    ((c : WasAppended v.0 s.ask w.0) × (length (cuts_in c.earlier) ≡ s.old)) (Unit {0}) × IsLegal w.0
-
--- the store was added if as many batches had been stored as were expected
-abbrev pub AddsNext : Step Act → View Act ℕ → ℕ → View Act ℕ → Type 0
-AddsNext s v found w = MatchBool (found == s.old)
-    ((c : WasAppended v.0 s.ask w.0) × (length (stores_in c.earlier) ≡ s.old)) (Unit {0}) × IsLegal w.0
+-- the act was added if this count of the acts before it was as expected
+abbrev pub AddsNext : (List Act → ℕ) → Step Act → View Act ℕ → ℕ → View Act ℕ → Type 0
+AddsNext count s v found w = MatchBool (found == s.old)
+    ((c : WasAppended v.0 s.ask w.0) × (count c.earlier ≡ s.old)) (Unit {0}) × IsLegal w.0
 
 -- the answer is how many batches were stored
 abbrev pub Counts : Step Act → View Act ℕ → ℕ → View Act ℕ → Type 0

@@ -13,23 +13,12 @@ use logbook::Seen;
 use std::marker::Model;
 
 /// What a hall leaves, however it ends: the receipts of its write sides, and its history.
+#[derive(Drop)]
 pub struct Account {
     receipts: Vec<Receipt>,
     history: Seen<Act, u64, Law>,
     /// Whether the hall's committing side, the thread that stores, noted every group in the history.
     own: bool,
-}
-
-impl Drop for Account {
-    fn drop(self) {
-        let Account {
-            receipts,
-            history,
-            own: _,
-        } = self;
-        drop(receipts);
-        drop(history);
-    }
 }
 
 impl Model for Account {

@@ -65,31 +65,22 @@ impl Opening<State, Act> for Begin {
     ghost log = { λ n state. Began state ∷ [] };
 }
 
-/// The step that adds an answer.
-struct Issuing;
+/// The step that adds an act: an answer is issued, a connection asks for a session or calls a request.
+struct Adding;
 
-impl Play<Act, u64> for Issuing {
+impl Play<Act, u64> for Adding {
     ghost use Rattle.fe_history.specs.Rules.{Adds};
 
     ghost then = { Adds };
 }
 
-impl Plain<Receipt, Act, u64> for Issuing {
+impl Plain<Receipt, Act, u64> for Adding {
     ghost use Rattle.std.specs.Prelude.{None};
     ghost use Rattle.fe_history.specs.declared.act.Act.TheVariants.{Issued};
 
     ghost ask = { λ receipt. Issued receipt };
 
     ghost state = { λ receipt. None };
-}
-
-/// The step that adds that a connection asks for a session.
-struct Asking;
-
-impl Play<Act, u64> for Asking {
-    ghost use Rattle.fe_history.specs.Rules.{Adds};
-
-    ghost then = { Adds };
 }
 
 /// A connection, and the session that it asks for.
@@ -99,22 +90,13 @@ struct Wish {
     session: u64,
 }
 
-impl Plain<Wish, Act, u64> for Asking {
+impl Plain<Wish, Act, u64> for Adding {
     ghost use Rattle.std.specs.Prelude.{None};
     ghost use Rattle.fe_history.specs.declared.act.Act.TheVariants.{Asked};
 
     ghost ask = { λ wish. Asked wish.conn wish.session };
 
     ghost state = { λ wish. None };
-}
-
-/// The step that adds that a connection calls a request.
-struct Calling;
-
-impl Play<Act, u64> for Calling {
-    ghost use Rattle.fe_history.specs.Rules.{Adds};
-
-    ghost then = { Adds };
 }
 
 /// A connection, the session that it had, the request that it called under this number, and the place before.
@@ -127,7 +109,7 @@ struct HeardCall {
     place: u64,
 }
 
-impl Plain<HeardCall, Act, u64> for Calling {
+impl Plain<HeardCall, Act, u64> for Adding {
     ghost use Rattle.std.specs.Prelude.{None};
     ghost use Rattle.fe_history.specs.declared.act.Act.TheVariants.{Called};
 
@@ -140,9 +122,11 @@ impl Plain<HeardCall, Act, u64> for Calling {
 struct Cutting;
 
 impl Play<Act, u64> for Cutting {
-    ghost use Rattle.fe_history.specs.Rules.{CutsNext};
+    ghost use Rattle.std.specs.Prelude.{length};
+    ghost use Rattle.fe_history.specs.Acts.{cuts_in};
+    ghost use Rattle.fe_history.specs.Rules.{AddsNext};
 
-    ghost then = { CutsNext };
+    ghost then = { AddsNext (λ acts. length (cuts_in acts)) };
 }
 
 impl Plain<Front, Act, u64> for Cutting {
@@ -167,9 +151,11 @@ struct Appended<'a, D: Disk> {
 struct Storing;
 
 impl Play<Act, u64> for Storing {
+    ghost use Rattle.std.specs.Prelude.{length};
+    ghost use Rattle.fe_history.specs.Acts.{stores_in};
     ghost use Rattle.fe_history.specs.Rules.{AddsNext};
 
-    ghost then = { AddsNext };
+    ghost then = { AddsNext (λ acts. length (stores_in acts)) };
 }
 
 impl<'a, D: Disk> Plain<Appended<'a, D>, Act, u64> for Storing {
@@ -192,19 +178,11 @@ impl Play<Act, u64> for Counting {
 
 /// A history that has just begun. It has no name yet, the type by which contracts tell halls' histories
 /// apart: `named` gives it one.
+#[derive(Drop)]
 pub struct NewHistory {
     stores: Word<Act, u64, Law>,
     cuts: Word<Act, u64, Law>,
     seen: Seen<Act, u64, Law>,
-}
-
-impl Drop for NewHistory {
-    fn drop(self) {
-        let NewHistory { stores, cuts, seen } = self;
-        drop(stores);
-        drop(cuts);
-        drop(seen);
-    }
 }
 
 impl Model for NewHistory {
@@ -271,6 +249,7 @@ impl NewHistory {
 }
 
 /// The words of a hall's history, which all threads share.
+#[derive(Drop)]
 pub struct HistoryWords<M: Tally> {
     stores: Word<Act, u64, Law>,
     cuts: Word<Act, u64, Law>,
@@ -279,29 +258,11 @@ pub struct HistoryWords<M: Tally> {
     ghost cuts_are: { cuts ≡ cuts_of M.book },
 }
 
-impl<M: Tally> Drop for HistoryWords<M> {
-    fn drop(self) {
-        let HistoryWords {
-            stores,
-            cuts,
-            of: _,
-        } = self;
-        drop(stores);
-        drop(cuts);
-    }
-}
-
 /// A beginning of a hall's history, as a thread has seen it. Contracts see its acts.
+#[derive(Drop)]
 pub struct History<M: Tally> {
     seen: Seen<Act, u64, Law>,
     of: PhantomData<M>,
-}
-
-impl<M: Tally> Drop for History<M> {
-    fn drop(self) {
-        let History { seen, of: _ } = self;
-        drop(seen);
-    }
 }
 
 impl<M: Tally> Model for History<M> {
@@ -353,10 +314,10 @@ impl<M: Tally> History<M> {
     {
         let mut offer: Offer<Act, u64, Law, Nothing> = self
             .seen
-            .plain::<Nothing, Receipt, Issuing>(&receipt);
+            .plain::<Nothing, Receipt, Adding>(&receipt);
         let _ = history_words
             .stores
-            .load::<Issuing, Nothing>(&mut self.seen, &mut offer);
+            .load::<Adding, Nothing>(&mut self.seen, &mut offer);
     }
 
     /// Adds that a connection asks for a session, or calls a request of the session that it had, if this
@@ -373,10 +334,10 @@ impl<M: Tally> History<M> {
             let wish = Wish { conn, session };
             let mut offer: Offer<Act, u64, Law, Nothing> = self
                 .seen
-                .plain::<Nothing, Wish, Asking>(&wish);
+                .plain::<Nothing, Wish, Adding>(&wish);
             let _ = history_words
                 .stores
-                .load::<Asking, Nothing>(&mut self.seen, &mut offer);
+                .load::<Adding, Nothing>(&mut self.seen, &mut offer);
         } else if let ClientMessage::Call { number, request } = message {
             let Some(session) = had else {
                 return;
@@ -390,10 +351,10 @@ impl<M: Tally> History<M> {
             };
             let mut offer: Offer<Act, u64, Law, Nothing> = self
                 .seen
-                .plain::<Nothing, HeardCall, Calling>(&call);
+                .plain::<Nothing, HeardCall, Adding>(&call);
             let _ = history_words
                 .stores
-                .load::<Calling, Nothing>(&mut self.seen, &mut offer);
+                .load::<Adding, Nothing>(&mut self.seen, &mut offer);
         }
     }
 
@@ -471,7 +432,7 @@ impl<M: Tally> History<M> {
         };
         let mut offer: Offer<Act, u64, Law, Nothing> = self
             .seen
-            .plain::<Nothing, Receipt, Issuing>(&none);
+            .plain::<Nothing, Receipt, Adding>(&none);
         history_words
             .stores
             .load::<Counting, Nothing>(&mut self.seen, &mut offer)

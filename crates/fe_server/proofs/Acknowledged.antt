@@ -2,25 +2,27 @@
 use Rattle.std.proofs.Common.{◌≡◌, ◌⊎◌, inl, inr, ⊎_elim, ℕ, zero, suc, ◌+◌, ◌<◌, ◌≤◌, Bool, true, false, Option, Some, List, [], ◌∷◌, ◌++◌, length, map, refl, sym, ap, subst, ◌∙◌, arith}
 use Rattle.std.specs.Prelude.{flat_map, slice_get, take, MatchBool, Contains}
 use Rattle.std.specs.List.{AllByRecursion}
+use Rattle.std.proofs.lemmas.Bool.{cases_lt}
 use Rattle.std.proofs.lemmas.Option.{get_or_from_slice_get, slice_get_within}
 use Rattle.std.proofs.lemmas.List.{append-nil, length-append, length-map, length-take-le, take-take}
+use Rattle.std.proofs.Math.Seq.{take-append_seam}
 use Rattle.fe_disk.specs.Runs.{LeavesOnly}
 use Rattle.fe_state.specs.State.{ServerState, after_all}
 use Rattle.fe_state.specs.declared.batch.Batch.{Batch}
 use Rattle.fe_state.specs.declared.entry.Entry.{Entry}
 use Rattle.fe_state.specs.declared.entry.Entry.TheVariants.{Finished}
-use Rattle.fe_state.specs.declared.request.Request.{Request}
 use Rattle.fe_replica.proofs.Following.{place_after}
 use Rattle.fe_keeper.specs.Keeper.{KeeperState}
 use Rattle.fe_keeper.specs.Stands.{LeavesPrefix}
 use Rattle.fe_messages.specs.Answers.{IsAnswerIn}
+use Rattle.fe_messages.proofs.Boxes.{all_weaker}
 use mathlib.Core.List.{IsPrefix}
-use Rattle.fe_history.proofs.Acts.{answer_of_call, answer_of_with, called_asked, cut_called, entries_called_with, goes_at, issued_asked, issued_before_cut, issued_of_call, prefix_self, prefix_trans, stands_with, stores_rise}
-use Rattle.fe_hall.proofs.Committed.{appends_length}
-use Rattle.fe_history.specs.Acts.{Account, AreOfCalls, EachIssued, FollowEachOther, HasMore, IsAccountOf, IsAnswerOf, IsLegal, StandsIn, batches_of, cuts_in, entries_in, stores_in}
+use Rattle.fe_history.proofs.Acts.{answer_of_call, issued_before_cut, issued_of_call, may_at, prefix_self, prefix_trans, stores_rise}
+use Rattle.fe_hall.proofs.Committed.{appends_length, holds_here}
+use Rattle.fe_history.specs.Acts.{Account, EachIssued, HasMore, IsAccountOf, IsLegal, StandsIn, batches_of, entries_in, stores_in}
 use Rattle.fe_hall.specs.Commits.{Append, AreAppends, AppendsAreNoted, AreNotesOf, Commits, HoldsSince, note_of}
 use Rattle.fe_history.specs.declared.act.Act.{Act}
-use Rattle.fe_history.specs.declared.act.Act.TheVariants.{Asked, Began, Called, Cut, Issued}
+use Rattle.fe_history.specs.declared.act.Act.TheVariants.{Began, Called, Cut, Issued}
 use Rattle.fe_hall.specs.declared.commit_end.CommitEnd.{CommitEnd}
 use Rattle.fe_history.specs.declared.receipt.Receipt.{Receipt}
 use Rattle.fe_server.specs.Acknowledged.{IsHeld, IsAcknowledged, HasCommittedAndNoted}
@@ -28,12 +30,11 @@ use Rattle.fe_disk.specs.declared.disk.Disk.{Ghosts}
 
 -- ---- what was told
 
-pub contains_act : (acts : List Act) (a : Act) → StandsIn acts a → Contains acts a
+contains_act : (acts : List Act) (a : Act) → StandsIn acts a → Contains acts a
 contains_act acts a is = (is.0, slice_get_within acts is.0 a is.1, get_or_from_slice_get acts is.0 a a is.1)
 
-contains_issued : (acts : List Act) (receipts : List Receipt) → EachIssued receipts acts → AllByRecursion (λ r. Contains acts (Issued r)) receipts
-contains_issued acts [] issued = tt
-contains_issued acts (r ∷ receipts) issued = (contains_act acts (Issued r) issued.0, contains_issued acts receipts issued.1)
+pub contains_issued : (acts : List Act) (receipts : List Receipt) → EachIssued receipts acts → AllByRecursion (λ r. Contains acts (Issued r)) receipts
+contains_issued acts receipts = all_weaker (λ r. StandsIn acts (Issued r)) (λ r. Contains acts (Issued r)) (λ r. contains_act acts (Issued r)) receipts
 
 -- ---- the group of an entry
 
@@ -49,11 +50,6 @@ record HasGroup {D : Type 0} (appends : List (Append D)) (n place : ℕ) : Type 
   pub not_earlier : append.before.state.place ≤ place
   pub has_it : place < append.after.state.place
 
-le_or : (a b : ℕ) → (a ≤ b) ⊎ (b < a)
-le_or zero b = inl (omega arith)
-le_or (suc a) zero = inr (omega arith)
-le_or (suc a) (suc b) = ⊎_elim (λ (le : a ≤ b). inl (omega (arith, le))) (λ (lt : b < a). inr (omega (arith, lt))) (le_or a b)
-
 group_of : {D : Type 0} (s : ServerState) (groups : List (List Entry)) (appends : List (Append D)) (n place : ℕ) → AreAppends s groups appends → s.place ≤ place → place < s.place + length (flat (take n groups))
     → HasGroup appends n place
 group_of s groups appends zero place are low high = absurd (omega (arith, low, high))
@@ -65,12 +61,12 @@ group_of s (group ∷ groups) (append ∷ appends) (suc n) place are low high =
     let leads = ap (λ (t : ServerState). t.place) are.1 in
     let size = length-append group (flat (take n groups)) in
     ⊎_elim
+    (λ (lt : place < s.place + length group).
+    record { at = 0; append = append; is_there = refl; before = omega arith; not_earlier = omega (arith, begins, low); has_it = omega (arith, leads, ends, lt) })
     (λ (le : s.place + length group ≤ place).
     let h = group_of (after_all s group) groups appends n place are.3 (omega (arith, ends, le)) (omega (arith, ends, size, high)) in
     record { at = suc h.at; append = h.append; is_there = h.is_there; before = omega (arith, h.before); not_earlier = h.not_earlier; has_it = h.has_it })
-    (λ (lt : place < s.place + length group).
-    record { at = 0; append = append; is_there = refl; before = omega arith; not_earlier = omega (arith, begins, low); has_it = omega (arith, leads, ends, lt) })
-    (le_or (s.place + length group) place)
+    (cases_lt place (s.place + length group))
 
 -- the entries of the first appends that were noted are those of the first groups
 noted_entries : {D : Type 0} (model : Ghosts D) (s : ServerState) (groups : List (List Entry)) (appends : List (Append D)) (n : ℕ) → AreAppends s groups appends
@@ -85,11 +81,7 @@ noted_entries model s (group ∷ groups) (append ∷ appends) (suc n) are =
 
 -- a beginning is the first of a list
 front_is : {A : Type 0} (xs ys : List A) → IsPrefix xs ys → xs ≡ take (length xs) ys
-front_is xs ys p = sym (ap (λ t. take (length xs) t) (sym p.1) ∙ first xs p.0)
-  where
-    first : {A : Type 0} (xs rest : List A) → take (length xs) (xs ++ rest) ≡ xs
-    first [] rest = refl
-    first (x ∷ xs) rest = ap (λ t. x ∷ t) (first xs rest)
+front_is xs ys p = sym (ap (λ t. take (length xs) t) (sym p.1) ∙ take-append_seam xs p.0)
 
 -- what was noted is of the first appends
 notes_front : {D : Type 0} (model : Ghosts D) (appends : List (Append D)) (end : Option CommitEnd) (notes : List (Batch × ℕ)) → AreNotesOf model appends end notes → IsPrefix notes (map (note_of model) appends)
@@ -99,10 +91,6 @@ notes_front model appends end notes (inr (strange, last, all)) = (last ∷ [], a
 -- ---- images
 
 module _ {D : Type 0} (model : Ghosts D) (begun : ServerState) (history : List (List Entry)) (last : D) where
-  first_holds : (n : ℕ) (here : D) (appends : List (Append D)) → HoldsSince model begun history n here appends last → LeavesOnly model here last (LeavesPrefix begun history n)
-  first_holds n here [] holds = holds
-  first_holds n here (a ∷ appends) holds = holds.0
-
   -- from the end of an append on, images hold its group
   append_holds : (n : ℕ) (here : D) (appends : List (Append D)) (k : ℕ) (a : Append D) → slice_get appends k ≡ Some a → HoldsSince model begun history n here appends last
       → LeavesOnly model a.after.store.disk last (LeavesPrefix begun history (n + k + 1))
@@ -111,7 +99,7 @@ module _ {D : Type 0} (model : Ghosts D) (begun : ServerState) (history : List (
       let same : b ≡ a = cc in
       let count : n + 1 ≡ n + 0 + 1 = omega arith in
       subst (λ (j : ℕ). LeavesOnly model a.after.store.disk last (LeavesPrefix begun history j)) count
-      (subst (λ (c : Append D). LeavesOnly model c.after.store.disk last (LeavesPrefix begun history (n + 1))) same (first_holds (n + 1) b.after.store.disk appends holds.3))
+      (subst (λ (c : Append D). LeavesOnly model c.after.store.disk last (LeavesPrefix begun history (n + 1))) same (holds_here model begun history (n + 1) b.after.store.disk appends last holds.3))
   append_holds n here (b ∷ appends) (suc k) a is holds =
       let count : n + 1 + k + 1 ≡ n + suc k + 1 = omega arith in
       subst (λ (j : ℕ). LeavesOnly model a.after.store.disk last (LeavesPrefix begun history j)) count (append_holds (n + 1) b.after.store.disk appends k a is holds.3)
@@ -122,10 +110,7 @@ module _ {D : Type 0} (model : Ghosts D) (old new : KeeperState D) (end : Commit
   abbrev stored_groups : List (List Entry)
   stored_groups = take commits.stored commits.groups
 
-  module _ (acts : List Act) (front : IsPrefix (stores_in acts) (map (note_of model) commits.appends)) (goes : FollowEachOther old.state [] acts) (earlier later : List Act) (r : Receipt) (is : acts ≡ earlier ++ Issued r ∷ later) where
-    count : ℕ
-    count = length (stores_in earlier)
-
+  module _ (acts : List Act) (front : IsPrefix (stores_in acts) (map (note_of model) commits.appends)) (legal : IsLegal acts) (begins : IsPrefix (Began old.state ∷ []) acts) (earlier later : List Act) (r : Receipt) (is : acts ≡ earlier ++ Issued r ∷ later) where
     -- what was stored before the answer was told
     before_it : stores_in earlier ≡ take (length (stores_in earlier)) (map (note_of model) commits.appends)
     before_it = front_is (stores_in earlier) (map (note_of model) commits.appends)
@@ -147,7 +132,7 @@ module _ {D : Type 0} (model : Ghosts D) (old new : KeeperState D) (end : Commit
     answer_is : IsAnswerIn old.state (flat (take (length (stores_in earlier)) stored_groups)) r.session r.number r.answer r.place
     answer_is =
         subst (λ (es : List Entry). IsAnswerIn old.state es r.session r.number r.answer r.place) entries_are
-        (answer_of_call old.state earlier (entries_in (batches_of (stores_in earlier))) r (goes_at old.state [] earlier later (Issued r) (subst (λ (a : List Act). FollowEachOther old.state [] a) is goes)).0)
+        (answer_of_call old.state earlier (entries_in (batches_of (stores_in earlier))) r (may_at old.state acts earlier later (Issued r) legal begins is (λ e. cc e)).0.0)
 
     issued_right : IsAnswerIn old.state (flat (take (length (stores_in earlier)) commits.groups)) r.session r.number r.answer r.place
     issued_right =
@@ -175,89 +160,31 @@ module _ {D : Type 0} (model : Ghosts D) (old new : KeeperState D) (end : Commit
                   (append_holds model old.state commits.groups new.store.disk 0 old.store.disk commits.appends g.at g.append g.is_there (commits.any_moment h fine));
             })
 
-  module _ (acts : List Act) (front : IsPrefix (stores_in acts) (map (note_of model) commits.appends)) (goes : FollowEachOther old.state [] acts) where
-    all_right : (earlier later : List Act) (r : Receipt) → Began old.state ∷ acts ≡ earlier ++ Issued r ∷ later
-        → IsAnswerIn old.state (flat (take (length (stores_in earlier)) commits.groups)) r.session r.number r.answer r.place
-    all_right [] later r is = absurd (cc is)
-    all_right (e ∷ earlier) later r is =
-        let head : Began old.state ≡ e = cc is in
-        let tail : acts ≡ earlier ++ Issued r ∷ later = cc is in
-        subst (λ (a : Act). IsAnswerIn old.state (flat (take (length (stores_in (a ∷ earlier))) commits.groups)) r.session r.number r.answer r.place) head (issued_right acts front goes earlier later r tail)
-
-    all_held : model.honest old.store.disk → old.store.has_failed ≡ false → (earlier later : List Act) (r : Receipt) → Began old.state ∷ acts ≡ earlier ++ Issued r ∷ later
-        → (r.place < old.state.place) ⊎ IsHeld model old.state commits.groups commits.appends new.store.disk (length (stores_in earlier)) r.place
-    all_held h fine [] later r is = absurd (cc is)
-    all_held h fine (e ∷ earlier) later r is =
-        let head : Began old.state ≡ e = cc is in
-        let tail : acts ≡ earlier ++ Issued r ∷ later = cc is in
-        subst (λ (a : Act). (r.place < old.state.place) ⊎ IsHeld model old.state commits.groups commits.appends new.store.disk (length (stores_in (a ∷ earlier))) r.place) head
-        (issued_held acts front goes earlier later r tail h fine)
-
-  all_asked : (acts : List Act) → FollowEachOther old.state [] acts → (earlier later : List Act) (r : Receipt) → Began old.state ∷ acts ≡ earlier ++ Issued r ∷ later → StandsIn earlier (Asked r.conn r.session)
-  all_asked acts goes [] later r is = absurd (cc is)
-  all_asked acts goes (e ∷ earlier) later r is =
-      let tail : acts ≡ earlier ++ Issued r ∷ later = cc is in
-      stands_with e earlier (Asked r.conn r.session) (issued_asked old.state acts earlier later r goes tail)
-
-  all_called : (acts : List Act) → FollowEachOther old.state [] acts → (earlier later : List Act) (batch : Batch) → Began old.state ∷ acts ≡ earlier ++ Cut batch ∷ later
-      → AreOfCalls old.state earlier (entries_in (cuts_in earlier)) batch.entries
-  all_called acts goes [] later batch is = absurd (cc is)
-  all_called acts goes (e ∷ earlier) later batch is =
-      let tail : acts ≡ earlier ++ Cut batch ∷ later = cc is in
-      let head : Began old.state ≡ e = cc is in
-      let all : AreOfCalls old.state earlier (entries_in (cuts_in earlier)) batch.entries = cut_called old.state acts earlier later batch goes tail in
-      subst (λ (a : Act). AreOfCalls old.state (a ∷ earlier) (entries_in (cuts_in (a ∷ earlier))) batch.entries) head
-      (entries_called_with old.state (Began old.state) earlier (entries_in (cuts_in earlier)) batch.entries all)
-
-  all_of_calls : (acts : List Act) → FollowEachOther old.state [] acts → (earlier later : List Act) (r : Receipt) → Began old.state ∷ acts ≡ earlier ++ Issued r ∷ later
-      → (request : Request) × IsAnswerOf old.state earlier r request
-  all_of_calls acts goes [] later r is = absurd (cc is)
-  all_of_calls acts goes (e ∷ earlier) later r is =
-      let tail : acts ≡ earlier ++ Issued r ∷ later = cc is in
-      let of = issued_of_call old.state acts earlier later r goes tail in
-      let head : Began old.state ≡ e = cc is in
-      (of.0, subst (λ (a : Act). IsAnswerOf old.state (a ∷ earlier) r of.0) head (answer_of_with old.state earlier r of.0 of.1))
-
-  all_in_order : (acts : List Act) → FollowEachOther old.state [] acts → (earlier between later : List Act) (r : Receipt) (batch : Batch)
-      → Began old.state ∷ acts ≡ (earlier ++ Issued r ∷ between) ++ Cut batch ∷ later → r.place < batch.first
-  all_in_order acts goes [] between later r batch is = absurd (cc is)
-  all_in_order acts goes (e ∷ earlier) between later r batch is =
-      let tail : acts ≡ (earlier ++ Issued r ∷ between) ++ Cut batch ∷ later = cc is in
-      issued_before_cut old.state acts earlier between later r batch goes tail
-
-  all_calls_asked : (acts : List Act) → FollowEachOther old.state [] acts → (earlier later : List Act) (conn session number : ℕ) (request : Request) (place : ℕ)
-      → Began old.state ∷ acts ≡ earlier ++ Called conn session number request place ∷ later → StandsIn earlier (Asked conn session)
-  all_calls_asked acts goes [] later conn session number request place is = absurd (cc is)
-  all_calls_asked acts goes (e ∷ earlier) later conn session number request place is =
-      let tail : acts ≡ earlier ++ Called conn session number request place ∷ later = cc is in
-      stands_with e earlier (Asked conn session) (called_asked old.state acts earlier later conn session number request place goes tail)
-
   pub acknowledged : (account : Account) (seat : List Act) → AppendsAreNoted model commits.appends (Some end) (Began old.state ∷ []) seat → IsPrefix seat account.history → IsLegal account.history
       → MatchBool account.own (stores_in account.history ≡ stores_in seat) (HasMore (stores_in seat) (stores_in account.history)) → EachIssued account.receipts account.history
       → IsAcknowledged model old new end account
   acknowledged account seat (p, notes, is, are_notes) this legal own issued =
-      let whole = prefix_trans (Began old.state ∷ []) seat account.history p this in
-      let begins : Began old.state ∷ whole.0 ≡ account.history = whole.1 in
-      let goes : FollowEachOther old.state [] whole.0 = (subst IsLegal (sym begins) legal).1 in
+      let acts : List Act = account.history in
+      let begins = prefix_trans (Began old.state ∷ []) seat acts p this in
       let stored : MatchBool account.own (stores_in account.history ≡ notes) (HasMore notes (stores_in account.history)) =
       subst (λ (s : List (Batch × ℕ)). MatchBool account.own (stores_in account.history ≡ s) (HasMore s (stores_in account.history))) is own in
-      let front : account.own ≡ true → IsPrefix (stores_in whole.0) (map (note_of model) commits.appends) =
+      let front : account.own ≡ true → IsPrefix (stores_in acts) (map (note_of model) commits.appends) =
       λ alone.
       let same : stores_in account.history ≡ notes = subst (λ (b : Bool). MatchBool b (stores_in account.history ≡ notes) (HasMore notes (stores_in account.history))) alone stored in
-      subst (λ (s : List (Batch × ℕ)). IsPrefix s (map (note_of model) commits.appends)) (sym (ap stores_in begins ∙ same)) (notes_front model commits.appends (Some end) notes are_notes) in
+      subst (λ (s : List (Batch × ℕ)). IsPrefix s (map (note_of model) commits.appends)) (sym same) (notes_front model commits.appends (Some end) notes are_notes) in
       record {
         commits = commits;
         notes = notes;
         are_notes = are_notes;
         stored = stored;
         issued = contains_issued account.history account.receipts issued;
-        right = λ alone earlier later r at. all_right whole.0 (front alone) goes earlier later r (begins ∙ at);
-        held = λ alone h fine earlier later r at. all_held whole.0 (front alone) goes h fine earlier later r (begins ∙ at);
-        called = λ earlier later batch at. all_called whole.0 goes earlier later batch (begins ∙ at);
-        of_call = λ earlier later r at. all_of_calls whole.0 goes earlier later r (begins ∙ at);
-        in_order = λ earlier between later r batch at. all_in_order whole.0 goes earlier between later r batch (begins ∙ at);
-        calls_asked = λ earlier later conn session number request place at. all_calls_asked whole.0 goes earlier later conn session number request place (begins ∙ at);
-        asked = λ earlier later r at. all_asked whole.0 goes earlier later r (begins ∙ at);
+        right = λ alone earlier later r at. issued_right acts (front alone) legal begins earlier later r at;
+        held = λ alone h fine earlier later r at. issued_held acts (front alone) legal begins earlier later r at h fine;
+        called = λ earlier later batch at. (may_at old.state acts earlier later (Cut batch) legal begins at (λ e. cc e)).0.3;
+        of_call = λ earlier later r at. issued_of_call old.state acts earlier later r legal begins at;
+        in_order = λ earlier between later r batch at. issued_before_cut old.state acts earlier between later r batch legal begins at;
+        calls_asked = λ earlier later conn session number request place at. (may_at old.state acts earlier later (Called conn session number request place) legal begins at (λ e. cc e)).0;
+        asked = λ earlier later r at. (may_at old.state acts earlier later (Issued r) legal begins at (λ e. cc e)).0.1;
       }
 
 -- with what a committing side gave back, and the account of its hall

@@ -1,15 +1,14 @@
 -- How serving a store ends.
 use Rattle.std.proofs.Common.{◌≡◌, ◌⊎◌, inl, inr, ℕ, ◌<◌, Bool, true, false, refl, List, [], ◌∷◌, Some, None, Result, Ok, Err, sym}
 use Rattle.std.proofs.lemmas.Bool.{lt-ltb}
-use Rattle.std.specs.Prelude.{All, IfOk, IsTrue, nat_lt}
-use Rattle.fe_mail.specs.Books.{AddUp}
-use Rattle.fe_history.specs.Receipts.{IsBorneOut}
+use Rattle.std.proofs.lemmas.Result.{IfOk-weaker}
+use Rattle.std.specs.Prelude.{IfOk, IsTrue, nat_lt}
 use Rattle.fe_keeper.specs.Keeper.{KeeperState}
 use Rattle.fe_keeper.specs.Stands.{EachStandsFor}
 use Rattle.fe_hall.proofs.Committed.{kept_noted, rests_itself, still_itself}
 use Rattle.fe_history.specs.declared.act.Act.TheVariants.{Began}
 use Rattle.fe_hall.specs.declared.commit_end.CommitEnd.{CommitEnd}
-use Rattle.fe_hall.specs.declared.commit_end.CommitEnd.TheVariants.{Stopped, Store, Strange, Spent}
+use Rattle.fe_hall.specs.declared.commit_end.CommitEnd.TheVariants.{Stopped, Strange}
 use Rattle.fe_server.specs.declared.served.Served.{Served}
 use Rattle.fe_server.specs.declared.stop_fault.StopFault.{StopFault}
 use Rattle.fe_server.specs.declared.stop_fault.StopFault.TheVariants as fault
@@ -29,16 +28,12 @@ module _ {D : Type 0} (model : Ghosts D) where
 -- a hall that was stopped is closed
 pub closed_answers : (end : CommitEnd) → fault_of_end end ≡ None → IsAnswerAt end None
 closed_answers Stopped none = tt
-closed_answers (Store why) none = absurd (cc none)
-closed_answers Strange none = absurd (cc none)
-closed_answers Spent none = absurd (cc none)
+closed_answers _ none = absurd (cc none)
 
 -- memory was short for that, or something was strange
 pub unclosed_answers : (end : CommitEnd) (given : StopFault) → fault_of_end end ≡ None → (given ≡ fault.Memory) ⊎ (given ≡ fault.Strange) → IsAnswerAt end (Some given)
 unclosed_answers Stopped given none why = why
-unclosed_answers (Store fault) given none why = absurd (cc none)
-unclosed_answers Strange given none why = absurd (cc none)
-unclosed_answers Spent given none why = absurd (cc none)
+unclosed_answers _ given none why = absurd (cc none)
 
 -- whichever it was, whether something lacked is left out
 pub unclosed_fault : (given : StopFault) (short : Bool) → ((given ≡ fault.Memory) × (short ≡ true)) ⊎ ((given ≡ fault.Strange) × (short ≡ false)) → (given ≡ fault.Memory) ⊎ (given ≡ fault.Strange)
@@ -48,23 +43,12 @@ unclosed_fault given short (inr strange) = inr strange.0
 -- a fault of the end is the answer
 pub fault_answers : (end : CommitEnd) (given : StopFault) → fault_of_end end ≡ Some given → IsAnswerAt end (Some given)
 fault_answers Stopped given is = absurd (cc is)
-fault_answers (Store why) given is = sym is
-fault_answers Strange given is = sym is
-fault_answers Spent given is = sym is
+fault_answers _ given is = sym is
 
--- an audit that is settled is settled in each part
-pub settled_books : {D E : Type 0} (answer : Result (Served D) E) (keeps : Bool) → IfOk answer (λ (s : Served D). IsSettled keeps s.keeper.state s.audit) → IfOk answer (λ (s : Served D). AddUp s.audit.books)
-settled_books (Err e) keeps all = tt
-settled_books (Ok s) keeps all = all.add_up
-
-pub settled_unspent : {D E : Type 0} (answer : Result (Served D) E) (keeps : Bool) → IfOk answer (λ (s : Served D). IsSettled keeps s.keeper.state s.audit) → IfOk answer (λ (s : Served D). s.audit.books.spent ≡ false)
-settled_unspent (Err e) keeps all = tt
-settled_unspent (Ok s) keeps all = all.unspent
-
-pub settled_receipts : {D E : Type 0} (answer : Result (Served D) E) (keeps : Bool) → IfOk answer (λ (s : Served D). IsSettled keeps s.keeper.state s.audit)
-    → IfOk answer (λ (s : Served D). All (IsBorneOut s.keeper.state s.audit.sent) s.audit.receipts)
-settled_receipts (Err e) keeps all = tt
-settled_receipts (Ok s) keeps all = all.borne_out
+-- what follows of each audit that is settled
+pub settled : {D E : Type 0} (answer : Result (Served D) E) (keeps : Bool) (Q : Served D → Type 0) → ((s : Served D) → IsSettled keeps s.keeper.state s.audit → Q s)
+    → IfOk answer (λ (s : Served D). IsSettled keeps s.keeper.state s.audit) → IfOk answer Q
+settled answer keeps Q so = IfOk-weaker answer (λ s. IsSettled keeps s.keeper.state s.audit) Q so
 
 -- where the number of connections is bounded, receipts are kept, and are whole
 pub settled_whole : {D E : Type 0} (answer : Result (Served D) E) (accepts : ℕ) → IfOk answer (λ (s : Served D). IsSettled (nat_lt 0 accepts) s.keeper.state s.audit)

@@ -1,18 +1,17 @@
 -- What connections that have ended leave.
 use Rattle.std.proofs.Common.{◌≡◌, ℕ, ◌+◌, Bool, Option, Some, None, List, [], ◌∷◌, ◌++◌, Err, refl, sym, ap, subst, ◌∙◌, arith}
-use Rattle.std.specs.Prelude.{All, Contains, IfSome, filter_map, sum_by}
-use Rattle.std.specs.List.{AllByRecursion, cons_option}
+use Rattle.std.specs.Prelude.{All, Contains, filter_map, sum_by}
 use Rattle.std.proofs.lemmas.List.Elements.{All-nil, All-push, All-weaker, All-from_recursion}
 use Rattle.std.proofs.lemmas.List.Sums.{sum_by-append}
 use mathlib.Core.List.{IsPrefix}
 use Rattle.fe_mail.specs.declared.mail.Mail.{Mail}
 use Rattle.fe_wire.specs.declared.client_message.ClientMessage.{ClientMessage}
-use Rattle.fe_history.specs.Acts.{AreIssued, GatheredReceipts, StandsIn}
+use Rattle.fe_history.specs.Acts.{AreIssued, GatheredReceipts}
 use Rattle.fe_history.specs.Receipts.{receipt_of}
 use Rattle.fe_history.specs.declared.act.Act.{Act}
 use Rattle.fe_history.specs.declared.act.Act.TheVariants.{Issued}
 use Rattle.fe_history.specs.declared.receipt.Receipt.{Receipt}
-use Rattle.fe_history.proofs.Acts.{was_later}
+use Rattle.fe_history.proofs.Acts.{are_later, each_of}
 use Rattle.fe_hall.specs.Audits.{Audited, IsAudit}
 use Rattle.fe_hall.specs.Writes.{AreTaken}
 use Rattle.fe_shared.specs.Seats.{CallSeatState, MailSeatState, Seats, first_mail_seat, one_seat}
@@ -22,29 +21,15 @@ use Rattle.fe_server.specs.Connections.{AnswersIssued, AreCounted, IsOfConnectio
 use Rattle.fe_server.specs.within.Leavings.{AreWhole, ComesAfter, Leavings, amount_in}
 use Rattle.fe_server.specs.declared.failed.Failed.{Failed}
 use Rattle.fe_server.specs.declared.transcript.Transcript.{Transcript}
-use Rattle.fe_server.proofs.Acknowledged.{contains_act}
+use Rattle.fe_server.proofs.Acknowledged.{contains_issued}
 
 -- ---- the answers of a connection
-
--- answers that were issued stay issued
-are_later : (conn : ℕ) (mails : List Mail) (xs ys : List Act) → IsPrefix xs ys → AreIssued conn mails xs → AreIssued conn mails ys
-are_later conn [] xs ys p issued = tt
-are_later conn (m ∷ mails) xs ys p issued = (was_later conn m xs ys p issued.0, are_later conn mails xs ys p issued.1)
-
-with_one : (o : Option Receipt) (rs : List Receipt) (acts : List Act) → IfSome o (λ r. StandsIn acts (Issued r)) → AllByRecursion (λ r. Contains acts (Issued r)) rs
-    → AllByRecursion (λ r. Contains acts (Issued r)) (cons_option o rs)
-with_one None rs acts one all = all
-with_one (Some r) rs acts one all = (contains_act acts (Issued r) one, all)
-
-each_answer : (conn : ℕ) (mails : List Mail) (acts : List Act) → AreIssued conn mails acts → AllByRecursion (λ r. Contains acts (Issued r)) (filter_map (receipt_of conn) mails)
-each_answer conn [] acts issued = tt
-each_answer conn (m ∷ mails) acts issued = with_one (receipt_of conn m) (filter_map (receipt_of conn) mails) acts issued.0 (each_answer conn mails acts issued.1)
 
 -- each of them is in a later history
 answers_issued : (xs ys : List Act) → IsPrefix xs ys → (t : Transcript) → AreIssued t.conn t.mails.value.taken xs → AnswersIssued ys t
 answers_issued xs ys p t issued =
     All-from_recursion (λ r. Contains ys (Issued r)) (filter_map (receipt_of t.conn) t.mails.value.taken)
-    (each_answer t.conn t.mails.value.taken ys (are_later t.conn t.mails.value.taken xs ys p issued))
+    (contains_issued ys (filter_map (receipt_of t.conn) t.mails.value.taken) (each_of t.conn t.mails.value.taken ys (are_later t.conn t.mails.value.taken xs ys p issued)))
 
 -- a write side that began with a new seat took the mails that its seat has
 pub taken_issued : (conn : ℕ) (first mails : MailSeatState) (receipts : List Receipt) (all : List Mail) (acts : List Act)

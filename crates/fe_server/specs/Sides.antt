@@ -23,13 +23,8 @@ known_bytes (Some bytes) = bytes
 -- goes on
 abbrev pub ends_stream : ReadEnd → Bool
 ends_stream read_end.Closed = false
-ends_stream read_end.Device = true
-ends_stream (read_end.BadFrame offset) = true
-ends_stream read_end.Gone = true
 ends_stream read_end.Turns = false
-ends_stream read_end.Stopped = true
-ends_stream read_end.Spent = true
-ends_stream (read_end.NoMemory short) = true
+ends_stream _ = true
 
 -- how many reads are made from a connection at most, if the settings allow `turns`
 abbrev pub most_reads : ReadLimit → ℕ → ℕ

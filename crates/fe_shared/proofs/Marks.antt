@@ -1,7 +1,8 @@
 -- The front under a hall's lock follows the hall's history through each event.
-use Rattle.std.proofs.Common.{◌≡◌, inl, inr, ℕ, zero, suc, ◌+◌, ◌<◌, ◌≤◌, Bool, true, false, List, [], ◌∷◌, ◌++◌, length, Option, Some, None, Result, Ok, Err, OnOk, OnErr, refl, sym, ap, subst, ◌∙◌, arith, append_assoc, length-append}
+use Rattle.std.proofs.Common.{◌≡◌, inl, inr, ℕ, ◌+◌, ◌<◌, ◌≤◌, Bool, true, false, List, [], ◌∷◌, ◌++◌, length, Option, Some, None, Result, Ok, Err, OnOk, OnErr, refl, sym, ap, subst, ◌∙◌, arith, append_assoc, length-append}
 use Rattle.std.proofs.lemmas.Bool.Decides.{nat_tests}
 use Rattle.std.proofs.lemmas.List.{append-nil, map-append}
+use Rattle.std.proofs.lemmas.Option.{IfSome_then}
 use Rattle.std.specs.Prelude.{IfSome, drop, is_some, nat_eq, nat_lt, not, slice_get, if◌then◌else◌, ◌||◌}
 use Rattle.std.specs.List.{AllByRecursion}
 use Rattle.std.specs.Option.{option_map, option_map_or}
@@ -12,7 +13,7 @@ use Rattle.fe_state.specs.Sessions.{kept_in}
 use Rattle.fe_state.specs.State.{ServerState, after_all}
 use Rattle.fe_state.specs.declared.batch.Batch.{Batch}
 use Rattle.fe_state.specs.declared.entry.Entry.{Entry}
-use Rattle.fe_state.specs.declared.entry.Entry.TheVariants.{Attached, Closed, Settled, Finished}
+use Rattle.fe_state.specs.declared.entry.Entry.TheVariants.{Finished}
 use Rattle.fe_state.specs.declared.kept.Kept.{Kept}
 use Rattle.fe_state.specs.declared.request.Request.{Request}
 use Rattle.fe_state.proofs.Histories.{after-append}
@@ -44,21 +45,17 @@ use Rattle.fe_history.specs.declared.act.Act.TheVariants.{Asked, Began, Called, 
 use Rattle.fe_history.specs.declared.receipt.Receipt.{Receipt}
 use Rattle.fe_shared.specs.declared.taking.Taking.{Taking}
 use Rattle.fe_shared.specs.declared.taking.Taking.TheVariants as taking
-use Rattle.fe_history.specs.Acts.{AreOfCalls, IsAnswerOfCall, IsLegal, MayBeAppended, WasCalled, WasCalledSince, WasCut, WasStoredLast, batches_of, cuts_in, entries_in, stores_in}
+use Rattle.fe_history.specs.Acts.{AreOfCalls, IsLegal, WasCalled, WasCalledSince, WasCut, WasStoredLast, batches_of, cuts_in, entries_in, stores_in}
 use Rattle.fe_shared.specs.Marks.{AskedIn, BoxesAsked, BoxesTellOfCalls, IsBegun, IsMarked, MayBeIssued, TellsOfCall, WaitsAreCalled, WasAskedFor, cut_entries, made_entries, out_batches, out_of}
 use Rattle.fe_history.specs.Rules.{WasAppended, CutsAfter, Hears, pending_batch}
 use Rattle.fe_history.specs.Receipts.{receipt_of}
-use Rattle.fe_history.proofs.Acts.{answer_of_call_later, begins_so, call_behind, calls_later, cut_few, cuts_append, cuts_rise, entries_append, entries_called_both, entries_called_later, finishes_more, one_cut, prefix_self, prefix_trans, prefix_whole, since_in, since_more, stands_last, stands_later, stored_cut, stored_rise, issued_may}
+use Rattle.fe_history.proofs.Acts.{answer_of_call_later, appended_rise, cut_few, cuts_append, cuts_rise, entries_append, entries_called_both, entries_called_later, finishes_more, one_cut, prefix_self, prefix_trans, prefix_whole, since_later, since_more, stands_last, stands_later, stored_cut, stored_rise, issued_may, may_from}
 
 -- ---- answers in boxes
 
 -- what a mail tells, it tells in more acts, where more batches are posted
 tells_more : (begun : ServerState) (xs ys : List Act) (posted more : List Batch) → IsPrefix xs ys → IsPrefix posted more → (m : Mail) → TellsOfCall begun xs posted m → TellsOfCall begun ys more m
-tells_more begun xs ys posted more p q m = by (receipt_of 0 m)
-  where
-    by : (o : Option Receipt) → IfSome o (λ r. IsAnswerOfCall begun xs (entries_in posted) r) → IfSome o (λ r. IsAnswerOfCall begun ys (entries_in more) r)
-    by None is = tt
-    by (Some r) is = answer_of_call_later begun xs ys posted more r p q is
+tells_more begun xs ys posted more p q m is = IfSome_then (receipt_of 0 m) is (λ (r : Receipt). answer_of_call_later begun xs ys posted more r p q)
 
 boxes_more : (begun : ServerState) (xs ys : List Act) (posted more : List Batch) (f : FrontState) → IsPrefix xs ys → IsPrefix posted more → BoxesTellOfCalls begun xs posted f → BoxesTellOfCalls begun ys more f
 boxes_more begun xs ys posted more f p q boxes conn =
@@ -74,10 +71,8 @@ posts_tell begun acts posted front (e ∷ es) rest place answered is at = (
 )
   where
     of : (e : Entry) → entries_in posted ≡ front ++ (e ∷ (es ++ rest)) → TellsOfCall begun acts posted (mail_of e place)
-    of (Attached session floor) is = tt
-    of (Closed session) is = tt
-    of (Settled session floor) is = tt
     of (Finished session number request answer) is = inr (finished_at begun (entries_in posted) front (es ++ rest) session number request answer place answered is at)
+    of _ is = tt
 
 -- the mails of entries that are posted are of sessions that those who have them asked for
 posts_asked : (acts : List Act) (es : List Entry) (place : ℕ) → AllPosted (AskedIn acts) (WasAskedFor acts) es place
@@ -85,21 +80,15 @@ posts_asked acts [] place = tt
 posts_asked acts (e ∷ es) place = (λ conn may. of conn e may, posts_asked acts es (place + 1))
   where
     of : (conn : ℕ) (e : Entry) → AskedIn acts conn (session_of e) → WasAskedFor acts conn (mail_of e place)
-    of conn (Attached session floor) may = tt
-    of conn (Closed session) may = tt
-    of conn (Settled session floor) may = tt
     of conn (Finished session number request answer) may = may
+    of conn _ may = tt
 
 -- what was asked for stays asked for
 asked_more : (xs ys : List Act) → IsPrefix xs ys → (conn session : ℕ) → AskedIn xs conn session → AskedIn ys conn session
 asked_more xs ys p conn session asked = stands_later xs ys (Asked conn session) p asked
 
 was_more : (xs ys : List Act) → IsPrefix xs ys → (conn : ℕ) (m : Mail) → WasAskedFor xs conn m → WasAskedFor ys conn m
-was_more xs ys p conn m = by (receipt_of conn m)
-  where
-    by : (o : Option Receipt) → IfSome o (λ r. AskedIn xs conn r.session) → IfSome o (λ r. AskedIn ys conn r.session)
-    by None asked = tt
-    by (Some r) asked = asked_more xs ys p conn r.session asked
+was_more xs ys p conn m asked = IfSome_then (receipt_of conn m) asked (λ (r : Receipt). asked_more xs ys p conn r.session)
 
 boxes_asked_more : (xs ys : List Act) (f : FrontState) → IsPrefix xs ys → BoxesAsked xs f → BoxesAsked ys f
 boxes_asked_more xs ys f p boxes conn = all_weaker (WasAskedFor xs conn) (WasAskedFor ys conn) (was_more xs ys p conn) (mails_on f.connections conn) (boxes conn)
@@ -108,7 +97,7 @@ boxes_asked_more xs ys f p boxes conn = all_weaker (WasAskedFor xs conn) (WasAsk
 
 -- what waits was called in more acts
 waits_later : (begun : ServerState) (xs ys : List Act) (es : List Entry) (f : FrontState) → IsPrefix xs ys → WaitsAreCalled begun xs es f → WaitsAreCalled begun ys es f
-waits_later begun xs ys es f p = waits_more (WasCalledSince begun xs es) (WasCalledSince begun ys es) f (λ session number request. since_in begun xs ys es session number request (calls_later xs ys p))
+waits_later begun xs ys es f p = waits_more (WasCalledSince begun xs es) (WasCalledSince begun ys es) f (λ session number request. since_later begun xs ys es session number request p)
 
 -- and since then, if more entries come that close no session for which a request waits
 waits_since : (begun : ServerState) (acts : List Act) (all es : List Entry) (g : FrontState) → ClosesIdle es g → WaitsAreCalled begun acts all g → WaitsAreCalled begun acts (all ++ es) g
@@ -140,8 +129,7 @@ entries_since begun acts all es g (inr (session, is, idle)) calls = subst (λ (x
 pub begun_marked : (f : FrontState) (acts : List Act) → IsBegun f acts → IsLegal acts → IsMarked f 0 acts
 begun_marked f acts (begun, first, begins) legal = record {
   begun = begun;
-  past = [];
-  begins = begins;
+  begins = ([], sym begins);
   is_legal = legal;
   posted = [];
   out = None;
@@ -162,20 +150,26 @@ begun_marked f acts (begun, first, begins) legal = record {
     none : (conn : ℕ) → mails_on f.connections conn ≡ []
     none conn = ap (λ m. mails_on m conn) first.connections ∙ ap (λ o. option_map_or (λ (c : Connection). c.mails) o []) (get-empty nat_cmp conn)
 
--- state, pending entries, the batch that is out and the mark stay
-record Remains (f g : FrontState) : Type 0 where
-  pub state : g.service.state ≡ f.service.state
-  pub pending : g.service.pending ≡ f.service.pending
+-- these entries come, which are answered; the batch that is out and the mark stay
+record Grows (f : FrontState) (es : List Entry) (g : FrontState) : Type 0 where
+  pub state : g.service.state ≡ after_all f.service.state es
+  pub answered : AreAnswered f.service.state es
+  pub pending : g.service.pending ≡ f.service.pending ++ es
   pub out : g.out ≡ f.out
   pub durable : g.durable ≡ f.durable
 
-remains_marked : (f g : FrontState) (count : ℕ) (acts : List Act) → Remains f g → Loses f g → Fewer f g → ((P : ℕ → Mail → Type 0) → AllIn P f.connections → AllIn P g.connections)
-    → IsMarked f count acts → IsMarked g count acts
-remains_marked f g count acts same loses fewer boxes m =
-    let made : made_entries m.posted m.out f ≡ made_entries m.posted m.out g = ap (λ (es : List Entry). entries_in m.posted ++ (entries_in (out_batches m.out) ++ es)) (sym same.pending) in
+-- what follows of the entries that come, of the boxes and of those that wait after it
+grown_marked : (f g : FrontState) (es : List Entry) (count : ℕ) (acts : List Act) → Grows f es g → (m : IsMarked f count acts) → BoxesTellOfCalls m.begun acts m.posted g
+    → AreOfCalls m.begun acts (made_entries m.posted m.out f) es → WaitsAreCalled m.begun acts (made_entries m.posted m.out f ++ es) g → HasOnly (AskedIn acts) g → BoxesAsked acts g → IsMarked g count acts
+grown_marked f g es count acts grows m boxes called waits has asked =
+    let front : List Entry = entries_in m.posted in
+    let outs : List Entry = entries_in (out_batches m.out) in
+    let pending : List Entry = f.service.pending in
+    let all : List Entry = made_entries m.posted m.out f in
+    let made : all ++ es ≡ made_entries m.posted m.out g =
+    append_assoc front (outs ++ pending) es ∙ ap (λ (xs : List Entry). front ++ xs) (append_assoc outs pending es ∙ ap (λ (xs : List Entry). outs ++ xs) (sym grows.pending)) in
     record {
       begun = m.begun;
-      past = m.past;
       begins = m.begins;
       is_legal = m.is_legal;
       posted = m.posted;
@@ -183,18 +177,35 @@ remains_marked f g count acts same loses fewer boxes m =
       counted = m.counted;
       stored = m.stored;
       cut = m.cut;
-      same_out = same.out ∙ m.same_out;
-      durable = same.durable ∙ m.durable;
-      state = same.state ∙ m.state ∙ ap (λ (es : List Entry). after_all m.begun es) made;
-      answered = subst (λ (es : List Entry). AreAnswered m.begun es) made m.answered;
-      boxes = boxes (λ conn. TellsOfCall m.begun acts m.posted) m.boxes;
-      pending_called = subst (λ (es : List Entry). AreOfCalls m.begun acts (cut_entries m.posted m.out) es) (sym same.pending) m.pending_called;
-      waiting_called =
-          subst (λ (es : List Entry). WaitsAreCalled m.begun acts es g) made
-          (waits_fewer (WasCalledSince m.begun acts (made_entries m.posted m.out f)) f g fewer m.waiting_called);
-      has = has_lost (AskedIn acts) f g loses m.has;
-      asked = boxes (WasAskedFor acts) m.asked;
+      same_out = grows.out ∙ m.same_out;
+      durable = grows.durable ∙ m.durable;
+      state =
+          grows.state ∙ ap (λ (s : ServerState). after_all s es) m.state ∙ sym (after-append m.begun all es)
+          ∙ ap (λ (xs : List Entry). after_all m.begun xs) made;
+      answered =
+          subst (λ (xs : List Entry). AreAnswered m.begun xs) made
+          (answered-append m.begun all es m.answered (subst (λ (s : ServerState). AreAnswered s es) m.state grows.answered));
+      boxes = boxes;
+      pending_called =
+          subst (λ (xs : List Entry). AreOfCalls m.begun acts (cut_entries m.posted m.out) xs) (sym grows.pending)
+          (entries_called_both m.begun acts (cut_entries m.posted m.out) pending es m.pending_called
+          (subst (λ (xs : List Entry). AreOfCalls m.begun acts xs es) (sym (append_assoc front outs pending)) called));
+      waiting_called = subst (λ (xs : List Entry). WaitsAreCalled m.begun acts xs g) made waits;
+      has = has;
+      asked = asked;
     }
+
+-- no entry comes
+grows_none : (f g : FrontState) → g.service.state ≡ f.service.state → g.service.pending ≡ f.service.pending → g.out ≡ f.out → g.durable ≡ f.durable → Grows f [] g
+grows_none f g state pending out durable = record { state = state; answered = tt; pending = pending ∙ sym (append-nil f.service.pending); out = out; durable = durable }
+
+remains_marked : (f g : FrontState) (count : ℕ) (acts : List Act) → Grows f [] g → Loses f g → Fewer f g → ((P : ℕ → Mail → Type 0) → AllIn P f.connections → AllIn P g.connections)
+    → IsMarked f count acts → IsMarked g count acts
+remains_marked f g count acts same loses fewer boxes m =
+    let all : List Entry = made_entries m.posted m.out f in
+    grown_marked f g [] count acts same m (boxes (λ conn. TellsOfCall m.begun acts m.posted) m.boxes) tt
+    (subst (λ (es : List Entry). WaitsAreCalled m.begun acts es g) (sym (append-nil all)) (waits_fewer (WasCalledSince m.begun acts all) f g fewer m.waiting_called))
+    (has_lost (AskedIn acts) f g loses m.has) (boxes (WasAskedFor acts) m.asked)
 
 pub marked_still : (f g : FrontState) (count : ℕ) (acts : List Act) → g ≡ f → IsMarked f count acts → IsMarked g count acts
 marked_still f g count acts same marked = subst (λ (h : FrontState). IsMarked h count acts) (sym same) marked
@@ -203,7 +214,7 @@ pub connected_marked : {A E : Type 0} (f g : FrontState) (conn : ℕ) (result : 
     → IsMarked f count acts → IsMarked g count acts
 connected_marked f g conn (Ok u) count acts is err marked =
     marked_still (connected f conn) g count acts is
-    (remains_marked f (connected f conn) count acts (record { state = refl; pending = refl; out = refl; durable = refl }) (connected_loses f conn) (connected_fewer f conn)
+    (remains_marked f (connected f conn) count acts (grows_none f (connected f conn) refl refl refl refl) (connected_loses f conn) (connected_fewer f conn)
     (λ P. boxes-connected P f conn) marked)
 connected_marked f g conn (Err e) count acts ok is marked = marked_still f g count acts is marked
 
@@ -211,7 +222,7 @@ pub gone_marked : (f g : FrontState) (conn count : ℕ) (acts : List Act) → g 
 gone_marked f g conn count acts is marked =
     let keeps = dropped-keeps f conn in
     marked_still (dropped f conn) g count acts is
-    (remains_marked f (dropped f conn) count acts (record { state = keeps.state; pending = keeps.pending; out = keeps.out; durable = keeps.durable })
+    (remains_marked f (dropped f conn) count acts (grows_none f (dropped f conn) keeps.state keeps.pending keeps.out keeps.durable)
     (dropped_loses f conn) (dropped_fewer f conn) (λ P. boxes-dropped P f conn) marked)
 
 pub taken_marked : (f g : FrontState) (conn count : ℕ) (acts : List Act) → g ≡ taken f conn → IsMarked f count acts → IsMarked g count acts
@@ -219,21 +230,16 @@ taken_marked f g conn count acts is marked =
     marked_still (taken f conn) g count acts is
     (remains_marked f (taken f conn) count acts (by (nat_lt 0 (length (mails_on f.connections conn)))) (taken_loses f conn) (taken_fewer f conn) (λ P. boxes-taken P f conn) marked)
   where
-    by : (b : Bool) → Remains f (if b then record f { connections = with_mails f.connections conn (drop 1 (mails_on f.connections conn)); books = mail_taken f.books } else f)
-    by true = record { state = refl; pending = refl; out = refl; durable = refl }
-    by false = record { state = refl; pending = refl; out = refl; durable = refl }
-
-prefix_self_at : (xs ys : List Act) → ys ≡ xs → IsPrefix xs ys
-prefix_self_at xs ys same = subst (λ (zs : List Act). IsPrefix xs zs) (sym same) (prefix_self xs)
+    by : (b : Bool) → Grows f [] (if b then record f { connections = with_mails f.connections conn (drop 1 (mails_on f.connections conn)); books = mail_taken f.books } else f)
+    by true = grows_none f _ refl refl refl refl
+    by false = grows_none f f refl refl refl refl
 
 -- a history that goes on
 later_marked : (f : FrontState) (count : ℕ) (acts later : List Act) → IsPrefix acts later → IsLegal later → IsMarked f count acts → IsMarked f count later
 later_marked f count acts later p legal m =
-    let so = begins_so m.begun m.past acts later m.begins p in
     record {
       begun = m.begun;
-      past = so.0;
-      begins = so.1;
+      begins = prefix_trans (Began m.begun ∷ []) acts later m.begins p;
       is_legal = legal;
       posted = m.posted;
       out = m.out;
@@ -251,33 +257,21 @@ later_marked f count acts later p legal m =
       asked = boxes_asked_more acts later f p m.asked;
     }
 
--- an act that was added
-added_rises : (acts : List Act) (a : Act) (later : List Act) → WasAppended acts a later → IsPrefix acts later
-added_rises acts a later added = prefix_trans acts added.earlier later added.seen (a ∷ [], sym added.is)
-
+-- what is heard is added
 hears_rises : (acts : List Act) (conn : ℕ) (had : Option ℕ) (place : ℕ) (m : ClientMessage) (later : List Act) → Hears acts conn had place m later → IsPrefix acts later
-hears_rises acts conn had place (message.Attach session) later h = added_rises acts (Asked conn session) later h
-hears_rises acts conn None place (message.Call number request) later h = prefix_self_at acts later h
-hears_rises acts conn (Some session) place (message.Call number request) later h = added_rises acts (Called conn session number request place) later h
-hears_rises acts conn had place (message.Cancel number) later h = prefix_self_at acts later h
-hears_rises acts conn had place (message.Settle floor) later h = prefix_self_at acts later h
-hears_rises acts conn had place message.Bye later h = prefix_self_at acts later h
-hears_rises acts conn had place message.Report later h = prefix_self_at acts later h
+hears_rises acts conn had place (message.Attach session) later h = appended_rise acts later (Asked conn session) h
+hears_rises acts conn (Some session) place (message.Call number request) later h = appended_rise acts later (Called conn session number request place) h
+hears_rises acts conn had place _ later h = subst (λ (zs : List Act). IsPrefix acts zs) (sym h) (prefix_self acts)
 
 -- a message asks for a session that the history heard of
 hears_asks : (acts : List Act) (conn : ℕ) (had : Option ℕ) (place : ℕ) (m : ClientMessage) (later : List Act) → Hears acts conn had place m later → AsksOnly (AskedIn later conn) m
 hears_asks acts conn had place (message.Attach session) later h = stands_last h.earlier later (Asked conn session) h.is
-hears_asks acts conn had place (message.Call number request) later h = tt
-hears_asks acts conn had place (message.Cancel number) later h = tt
-hears_asks acts conn had place (message.Settle floor) later h = tt
-hears_asks acts conn had place message.Bye later h = tt
-hears_asks acts conn had place message.Report later h = tt
+hears_asks acts conn had place _ later h = tt
 
 -- and calls a request that the history heard of, at the place that the entries made so far lead to
 hears_calls : (begun : ServerState) (all : List Entry) (acts : List Act) (conn : ℕ) (had : Option ℕ) (place : ℕ) (m : ClientMessage) (later : List Act) → place ≡ begun.place + length all → Hears acts conn had place m later
     → CallsOnly (WasCalledSince begun later all) had m
 hears_calls begun all acts conn had place (message.Attach session) later at h = tt
-hears_calls begun all acts conn None place (message.Call number request) later at h = tt
 hears_calls begun all acts conn (Some session) place (message.Call number request) later at h = record {
   conn = conn;
   place = place;
@@ -288,10 +282,7 @@ hears_calls begun all acts conn (Some session) place (message.Call number reques
   at = at;
   not_closed = tt;
 }
-hears_calls begun all acts conn had place (message.Cancel number) later at h = tt
-hears_calls begun all acts conn had place (message.Settle floor) later at h = tt
-hears_calls begun all acts conn had place message.Bye later at h = tt
-hears_calls begun all acts conn had place message.Report later at h = tt
+hears_calls begun all acts conn had place _ later at h = tt
 
 -- the session that a connection has is one that it asked for
 pub had_asked : (f : FrontState) (conn count : ℕ) (acts : List Act) → IsMarked f count acts → IfSome (session_on f.connections conn) (λ session. AskedIn acts conn session)
@@ -304,7 +295,7 @@ had_asked f conn count acts m = by (session_on f.connections conn) refl
 -- a batch that was posted has an entry, or more
 pub posted_few : (f : FrontState) (count : ℕ) (acts : List Act) → IsMarked f count acts → count ≤ f.durable
 posted_few f count acts m =
-    let few = cut_few m.begun m.past acts m.posted (out_batches m.out) m.begins m.is_legal m.cut in
+    let few = cut_few m.begun acts m.posted (out_batches m.out) m.begins m.is_legal m.cut in
     omega (arith, m.counted, m.durable, few)
 
 -- ---- messages that are taken
@@ -320,66 +311,32 @@ kept_answers begun acts posted rest session number k all limits kept below calle
       inr (finished_at begun (entries_in posted) r.before behind session number k.request k.answer k.place (answered-split begun (entries_in posted) rest all).0 is r.at)
 ]
 
--- a call on the session that its connection has is one of these
-of_session : (called : ℕ → ℕ → Request → Type 0) (had : Option ℕ) (session number : ℕ) (request : Request) → had ≡ Some session → CallsOnly called had (message.Call number request) → called session number request
-of_session called had session number request is calls = subst (λ (o : Option ℕ). CallsOnly called o (message.Call number request)) is calls
-
 -- what was called since was called
 was_called : (begun : ServerState) (acts : List Act) (es : List Entry) (session number : ℕ) (request : Request) → WasCalledSince begun acts es session number request → WasCalled acts session number request
 was_called begun acts es session number request c = (c.conn, c.place, c.called)
 
 takes_marked : (f g : FrontState) (conn : ℕ) (m : ClientMessage) (es : List Entry) (count : ℕ) (acts : List Act) → Enters f es g → Takes f conn m es g → AsksOnly (AskedIn acts conn) m → (marked : IsMarked f count acts)
     → CallsOnly (WasCalledSince marked.begun acts (made_entries marked.posted marked.out f)) (session_on f.connections conn) m → IsMarked g count acts
-takes_marked f g conn message es count acts enters takes asks m calls =
+takes_marked f g conn sent es count acts enters takes asks m calls =
     let begun : ServerState = m.begun in
-    let front : List Entry = entries_in m.posted in
     let rest : List Entry = entries_in (out_batches m.out) ++ f.service.pending in
-    let made : made_entries m.posted m.out f ++ es ≡ made_entries m.posted m.out g =
-    append_assoc front rest es ∙ ap (λ (xs : List Entry). front ++ xs) (append_assoc (entries_in (out_batches m.out)) f.service.pending es ∙ ap (λ (xs : List Entry). entries_in (out_batches m.out) ++ xs) (sym enters.pending)) in
-    let whole : IsLegal (Began begun ∷ m.past) = subst IsLegal m.begins m.is_legal in
-    let outs : List Entry = entries_in (out_batches m.out) in
     let all : List Entry = made_entries m.posted m.out f in
     let Called' : ℕ → ℕ → Request → Type 0 = WasCalledSince begun acts all in
-    let waits = message_waits Called' f g conn message es takes calls m.waiting_called in
-    let closes : ClosesIdle es g = message_closes f g conn message es takes in
-    let after : AreOfCalls begun acts (cut_entries m.posted m.out ++ f.service.pending) es =
-    subst (λ (xs : List Entry). AreOfCalls begun acts xs es) (sym (append_assoc front outs f.service.pending)) (entries_since begun acts all es g closes waits.1) in
-    record {
-      begun = begun;
-      past = m.past;
-      begins = m.begins;
-      is_legal = m.is_legal;
-      posted = m.posted;
-      out = m.out;
-      counted = m.counted;
-      stored = m.stored;
-      cut = m.cut;
-      same_out = enters.out ∙ m.same_out;
-      durable = enters.durable ∙ m.durable;
-      state =
-          enters.state ∙ ap (λ (s : ServerState). after_all s es) m.state ∙ sym (after-append begun (made_entries m.posted m.out f) es)
-          ∙ ap (λ (xs : List Entry). after_all begun xs) made;
-      answered =
-          subst (λ (xs : List Entry). AreAnswered begun xs) made
-          (answered-append begun (made_entries m.posted m.out f) es m.answered (subst (λ (s : ServerState). AreAnswered s es) m.state (legal_answered f.service.state es enters.legal)));
-      boxes =
-          message_boxes (λ q. TellsOfCall begun acts m.posted) (λ q number r. tt) (λ q number. tt) (λ q text. tt) f conn g message es
-          (λ session number k is_call to is below.
-          kept_answers begun acts m.posted rest session number k m.answered (keeps_below begun whole.0) (sym (ap (λ (s : ServerState). kept_in (get s.sessions session) number) m.state) ∙ is)
-          (omega (arith, m.durable, below))
-          (was_called begun acts all session number k.request
-          (of_session Called' (session_on f.connections conn) session number k.request (addressed_has f conn number session to)
-          (subst (λ (c : ClientMessage). CallsOnly Called' (session_on f.connections conn) c) is_call calls))))
-          takes m.boxes;
-      pending_called =
-          subst (λ (xs : List Entry). AreOfCalls begun acts (cut_entries m.posted m.out) xs) (sym enters.pending)
-          (entries_called_both begun acts (cut_entries m.posted m.out) f.service.pending es m.pending_called after);
-      waiting_called = subst (λ (xs : List Entry). WaitsAreCalled begun acts xs g) made (waits_since begun acts all es g closes waits.0);
-      has = message_has (AskedIn acts) f g conn message es asks takes m.has;
-      asked =
-          message_boxes (WasAskedFor acts) (λ q number r. tt) (λ q number. tt) (λ q text. tt) f conn g message es
-          (λ session number k is_call to is below. m.has.sessions conn session (addressed_has f conn number session to)) takes m.asked;
-    }
+    let waits = message_waits Called' f g conn sent es takes calls m.waiting_called in
+    let closes : ClosesIdle es g = message_closes f g conn sent es takes in
+    grown_marked f g es count acts
+    (record { state = enters.state; answered = legal_answered f.service.state es enters.legal; pending = enters.pending; out = enters.out; durable = enters.durable }) m
+    (message_boxes (λ q. TellsOfCall begun acts m.posted) (λ q number r. tt) (λ q number. tt) (λ q text. tt) f conn g sent es
+    (λ session number k is_call to is below.
+    kept_answers begun acts m.posted rest session number k m.answered (keeps_below begun (subst IsLegal (sym m.begins.1) m.is_legal).0)
+    (sym (ap (λ (s : ServerState). kept_in (get s.sessions session) number) m.state) ∙ is) (omega (arith, m.durable, below))
+    (was_called begun acts all session number k.request
+    (subst (λ (o : Option ℕ). CallsOnly Called' o (message.Call number k.request)) (addressed_has f conn number session to)
+    (subst (λ (c : ClientMessage). CallsOnly Called' (session_on f.connections conn) c) is_call calls))))
+    takes m.boxes)
+    (entries_since begun acts all es g closes waits.1) (waits_since begun acts all es g closes waits.0) (message_has (AskedIn acts) f g conn sent es asks takes m.has)
+    (message_boxes (WasAskedFor acts) (λ q number r. tt) (λ q number. tt) (λ q text. tt) f conn g sent es
+    (λ session number k is_call to is below. m.has.sessions conn session (addressed_has f conn number session to)) takes m.asked)
 
 -- a message that the history hears is taken
 pub heard_marked : (f g : FrontState) (conn : ℕ) (m : ClientMessage) (es : List Entry) (count : ℕ) (acts later : List Act) → Hears acts conn (session_on f.connections conn) f.service.state.place m later → IsLegal later
@@ -413,7 +370,6 @@ module _ (f : FrontState) (count : ℕ) (acts : List Act) (m : IsMarked f count 
   pub cut_next : CutsAfter acts count (pending_batch f)
   cut_next = record {
     begun = m.begun;
-    past = m.past;
     begins = m.begins;
     before = m.posted;
     stored = m.stored;
@@ -440,34 +396,33 @@ module _ (f : FrontState) (count : ℕ) (acts : List Act) (m : IsMarked f count 
     cut_was = (m.posted, sym m.counted, last_cut)
 
     pub cut_marked : (g : FrontState) → g ≡ cut f → IsMarked g count later
+    unfolding later_marked
     cut_marked g is =
         let h : FrontState = record f { service = record f.service { pending = [] }; out = Some (record { first = f.durable; length = length f.service.pending }) } in
         let now : g ≡ h = is ∙ ap (λ (b : Bool). if b then f else h) some in
-        let rises : IsPrefix acts later = prefix_trans acts c.earlier later c.seen (Cut (pending_batch f) ∷ [], sym c.is) in
-        let (rest, begins) = begins_so m.begun m.past acts later m.begins rises in
+        let rises : IsPrefix acts later = appended_rise acts later (Cut (pending_batch f)) c in
+        let after = later_marked f count acts later rises legal m in
         let pending : List Entry = f.service.pending in
         let made : made_entries m.posted m.out f ≡ made_entries m.posted (Some (pending_batch f)) h =
         ap (λ (o : Option Batch). made_entries m.posted o f) no_out ∙ ap (λ (es : List Entry). entries_in m.posted ++ es) (sym (append-nil (pending ++ []) ∙ append-nil pending)) in
         marked_still h g count later now (record {
           begun = m.begun;
-          past = rest;
-          begins = begins;
+          begins = after.begins;
           is_legal = legal;
           posted = m.posted;
           out = Some (pending_batch f);
           counted = m.counted;
-          stored = prefix_trans m.posted (batches_of (stores_in acts)) (batches_of (stores_in later)) m.stored (stored_rise acts later rises);
+          stored = after.stored;
           cut = last_cut;
           same_out = refl;
           durable = m.durable;
           state = m.state ∙ ap (λ (es : List Entry). after_all m.begun es) made;
           answered = subst (λ (es : List Entry). AreAnswered m.begun es) made m.answered;
-          boxes = boxes_more m.begun acts later m.posted m.posted f rises (prefix_self m.posted) m.boxes;
+          boxes = after.boxes;
           pending_called = tt;
-          waiting_called =
-              subst (λ (xs : List Entry). WaitsAreCalled m.begun later xs h) made (waits_later m.begun acts later (made_entries m.posted m.out f) f rises m.waiting_called);
-          has = has_lost (AskedIn later) f h (record { holders = λ session conn is. is; sessions = λ conn session is. is }) (has_more (AskedIn acts) (AskedIn later) f (asked_more acts later rises) m.has);
-          asked = boxes_asked_more acts later f rises m.asked;
+          waiting_called = subst (λ (xs : List Entry). WaitsAreCalled m.begun later xs h) made after.waiting_called;
+          has = has_lost (AskedIn later) f h (record { holders = λ session conn is. is; sessions = λ conn session is. is }) after.has;
+          asked = after.asked;
         })
 
 -- ---- batches that are posted
@@ -490,13 +445,13 @@ module _ (f g : FrontState) (batch : Batch) (count : ℕ) (acts seat later : Lis
   with_batch : (b : Batch) → WithOut (Some b) → IsMarked g (count + 1) later
   with_batch b (was_cut, out, state, answered, pending_was, waiting_was) =
       let begun : ServerState = m.begun in
-      let so = begins_so begun m.past acts later m.begins p in
+      let begins = prefix_trans (Began begun ∷ []) acts later m.begins p in
       let same_place : IsOut (Some (out_of b)) batch = subst (λ (o : Option Out). IsOut o batch) out is_out in
       let first : b.first ≡ f.durable = subst (λ (o : Option Out). IfSome o (λ x. x.first ≡ f.durable)) out front.tied.out_first in
       let here : IsPrefix (m.posted ++ b ∷ []) (cuts_in later) = prefix_trans (m.posted ++ b ∷ []) (cuts_in acts) (cuts_in later) was_cut (cuts_rise acts later p) in
       let there : IsPrefix (before ++ batch ∷ []) (cuts_in later) =
-      prefix_trans (before ++ batch ∷ []) (batches_of (stores_in later)) (cuts_in later) stored_last (stored_cut begun so.0 later so.1 legal) in
-      let one = one_cut begun so.0 later m.posted before b batch so.1 legal here there (sym same_place.0) in
+      prefix_trans (before ++ batch ∷ []) (batches_of (stores_in later)) (cuts_in later) stored_last (stored_cut begun later begins legal) in
+      let one = one_cut begun later m.posted before b batch begins legal here there (sym same_place.0) in
       let now : List Batch = m.posted ++ batch ∷ [] in
       let pending : List Entry = f.service.pending in
       let entries : entries_in now ≡ entries_in m.posted ++ entries_in (batch ∷ []) = entries_append m.posted (batch ∷ []) in
@@ -514,8 +469,7 @@ module _ (f g : FrontState) (batch : Batch) (count : ℕ) (acts seat later : Lis
       let has : HasOnly (AskedIn later) f = has_more (AskedIn acts) (AskedIn later) f (asked_more acts later p) m.has in
       record {
         begun = begun;
-        past = so.0;
-        begins = so.1;
+        begins = begins;
         is_legal = legal;
         posted = now;
         out = None;
@@ -560,54 +514,21 @@ first_in : (P : Mail → Type 0) (m : Mail) (ms : List Mail) → Some m ≡ slic
 first_in P m [] is all = absurd (cc is)
 first_in P m (x ∷ ms) is all = let same : x ≡ m = cc is in subst P same all.0
 
--- what was asked for, was asked for after the beginning
-asked_behind : (begun : ServerState) (past : List Act) (conn session : ℕ) → AskedIn (Began begun ∷ past) conn session → AskedIn past conn session
-asked_behind begun past conn session (zero, is) = absurd (cc is)
-asked_behind begun past conn session (suc k, is) = (k, is)
-
--- what was called, was called after the beginning
-called_behind : (begun : ServerState) (past : List Act) (session number : ℕ) (request : Request) → WasCalled (Began begun ∷ past) session number request → WasCalled past session number request
-called_behind begun past session number request (conn, place, called) = (conn, place, call_behind begun past conn session number request place called)
-
 -- what is first in a box may be issued
 pub first_may : (f : FrontState) (conn : ℕ) (m : Mail) (more : Bool) (count : ℕ) (acts : List Act) → Some m ≡ slice_get (mails_on f.connections conn) 0 → IsMarked f count acts → MayBeIssued conn (taking.Mail m more) acts
 first_may f conn m more count acts first marked =
     by m (first_in (TellsOfCall marked.begun acts marked.posted) m (mails_on f.connections conn) first (marked.boxes conn)) (first_in (WasAskedFor acts conn) m (mails_on f.connections conn) first (marked.asked conn))
   where
-    behind : (es : List Entry) (r : Receipt) → IsAnswerOfCall marked.begun (Began marked.begun ∷ marked.past) es r → IsAnswerOfCall marked.begun marked.past es r
-    behind es r (inl (kept, called)) = inl (kept, called_behind marked.begun marked.past r.session r.number kept.request called)
-    behind es r (inr is) = inr is
-
-    answers : (r : Receipt) → IsAnswerOfCall marked.begun acts (entries_in marked.posted) r → IsAnswerOfCall marked.begun marked.past (entries_in (batches_of (stores_in marked.past))) r
-    answers r is =
-        let stored : List Batch = batches_of (stores_in marked.past) in
-        let rises : IsPrefix marked.posted stored = subst (λ (zs : List Act). IsPrefix marked.posted (batches_of (stores_in zs))) marked.begins marked.stored in
-        behind (entries_in stored) r
-        (answer_of_call_later marked.begun (Began marked.begun ∷ marked.past) (Began marked.begun ∷ marked.past) marked.posted stored r (prefix_self (Began marked.begun ∷ marked.past)) rises
-        (subst (λ (zs : List Act). IsAnswerOfCall marked.begun zs (entries_in marked.posted) r) marked.begins is))
-
     by : (m : Mail) → TellsOfCall marked.begun acts marked.posted m → WasAskedFor acts conn m → MayBeIssued conn (taking.Mail m more) acts
     by (mail.Answer session number answer place) is asked =
         let r : Receipt = record { conn = conn; session = session; number = number; answer = answer; place = place } in
-        subst (λ (zs : List Act). MayBeAppended zs (Issued r)) (sym marked.begins)
-        (answers r is, asked_behind marked.begun marked.past conn session (subst (λ (zs : List Act). AskedIn zs conn session) marked.begins asked))
-    by (mail.Welcome session floor) is asked = tt
-    by (mail.Refused number refusal) is asked = tt
-    by (mail.Withdrawn number) is asked = tt
-    by (mail.Settled floor) is asked = tt
-    by (mail.Goodbye session) is asked = tt
-    by (mail.Report text) is asked = tt
+        may_from marked.begun acts (Issued r) marked.begins (answer_of_call_later marked.begun acts acts marked.posted (batches_of (stores_in acts)) r (prefix_self acts) marked.stored is, asked)
+    by _ is asked = tt
 
 -- what may be issued after some acts may be issued later
 pub may_later : (conn : ℕ) (t : Taking) (xs ys : List Act) → IsPrefix xs ys → MayBeIssued conn t xs → MayBeIssued conn t ys
-may_later conn (taking.Mail mail more) xs ys p may = by (receipt_of conn mail) may
-  where
-    by : (o : Option Receipt) → IfSome o (λ r. MayBeAppended xs (Issued r)) → IfSome o (λ r. MayBeAppended ys (Issued r))
-    by None may = tt
-    by (Some r) may = issued_may xs ys r p may
-may_later conn taking.Gone xs ys p may = tt
-may_later conn taking.Stopped xs ys p may = tt
-may_later conn taking.Spent xs ys p may = tt
+may_later conn (taking.Mail mail more) xs ys p may = IfSome_then (receipt_of conn mail) may (λ (r : Receipt). issued_may xs ys r p)
+may_later conn _ xs ys p may = tt
 
 -- a front that has a cut is not without one
 pub some_pending : (none has : Bool) → has ≡ not none → has ≡ true → none ≡ false

@@ -1,8 +1,7 @@
 -- The ledgers of a hall follow the front's books through each event.
-use Rattle.std.proofs.Common.{◌≡◌, inl, inr, ℕ, ◌+◌, ◌-◌, ◌^◌, ◌<◌, ◌≤◌, true, List, [], length, Option, Some, Result, Ok, Err, IsErr, ◌↔◌, OnOk, OnErr, refl, sym, subst, arith}
-use Rattle.std.proofs.lemmas.Bool.{and_parts}
-use Rattle.std.proofs.lemmas.Bool.Decides.{nat_tests}
-use Rattle.std.specs.Prelude.{IsTrue, nat_lt, nat_le, slice_get}
+use Rattle.std.proofs.Common.{◌≡◌, inl, inr, ℕ, ◌+◌, ◌-◌, ◌^◌, ◌<◌, ◌≤◌, List, [], length, Option, Some, Result, Ok, Err, IsErr, ◌↔◌, OnOk, OnErr, refl, sym, subst, arith}
+use Rattle.std.proofs.lemmas.Bool.{and_parts, leb-true, ltb-true}
+use Rattle.std.specs.Prelude.{IsTrue, nat_lt, slice_get}
 use Rattle.fe_memory.specs.Memory.{out_of_memory}
 use Rattle.fe_state.specs.declared.batch.Batch.{Batch}
 use Rattle.fe_state.specs.declared.entry.Entry.{Entry}
@@ -47,15 +46,9 @@ pub step_goes : (f g : FrontState) (e : event.Event) (es : List Entry) → IsFro
 step_goes f g e es front is_open few fewer step =
     goes f g (calls_of e) (taken_of e) (most_mails_of e) (rising.books_rise.rises f g e es front (has_room f.books (calls_of e) (most_mails_of e) is_open few fewer) step) few fewer
 
-le_from : (a b : ℕ) → nat_le a b ≡ true → a ≤ b
-le_from a b test = grind (arith, nat_tests)
-
-lt_from : (a b : ℕ) → nat_lt a b ≡ true → a < b
-lt_from a b test = grind (arith, nat_tests)
-
 pub post_goes : (f g : FrontState) (batch : Batch) → IsFront f → IsOpen f.books → IsTrue (posts_more f.books batch) → FrontStep f (event.Post batch) [] g → Goes f g 0 0
 post_goes f g batch front is_open more step =
-    step_goes f g (event.Post batch) [] front is_open (omega (arith, is_open.calls)) (le_from (f.books.mails + length batch.entries) most_counted more) step
+    step_goes f g (event.Post batch) [] front is_open (omega (arith, is_open.calls)) (leb-true (f.books.mails + length batch.entries) most_counted more) step
 
 -- a front that is as it was
 pub stays : (f g : FrontState) → IsOpen f.books → g ≡ f → Goes f g 0 0
@@ -83,7 +76,7 @@ record HasPlace (b : Books) : Type 0 where
 place : (b : Books) → IsTrue (takes_more b) → HasPlace b
 place b more =
     let both = and_parts (nat_lt b.calls most_counted) (nat_lt b.mails most_counted) more in
-    record { calls = lt_from b.calls most_counted both.0; mails = lt_from b.mails most_counted both.1 }
+    record { calls = ltb-true b.calls most_counted both.0; mails = ltb-true b.mails most_counted both.1 }
 
 module _ (f g : FrontState) (conn : ℕ) (es : List Entry) (front : IsFront f) (is_open : IsOpen f.books) (more : HasPlace f.books) where
   -- an event that is no call

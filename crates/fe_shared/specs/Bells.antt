@@ -1,6 +1,6 @@
 -- Whom a hold of a hall's lock owes the ring of a bell, a condition variable, since what it did may be what
 -- they wait for. See `docs/model.md`, "The hall".
-use Rattle.std.specs.Prelude.{ℕ, Bool, not, ◌&&◌, ◌==◌, if◌then◌else◌, Option, None, Some}
+use Rattle.std.specs.Prelude.{ℕ, Bool, not, ◌&&◌, ◌==◌, if◌then◌else◌, Option, Some}
 use Rattle.fe_shared.specs.declared.bells.Whom.{Whom}
 use Rattle.fe_shared.specs.declared.bells.Whom.TheVariants.{Nobody, Committing, Sides, CommittingAndSides}
 use Rattle.fe_shared.specs.declared.bells.Whom.TheVariants.{Room}
@@ -21,14 +21,9 @@ sides_if concerns conn = if concerns then Sides conn else Nobody
 -- The last mail was taken out of a connection's box: its read side, if that waits for its box.
 abbrev pub owed_by_look : ℕ → Bool → Option Taking → Whom
 owed_by_look conn watched (Some (taking.Mail mail more)) = sides_if (not more && watched) conn
-owed_by_look conn watched (Some taking.Gone) = Nobody
-owed_by_look conn watched (Some taking.Stopped) = Nobody
-owed_by_look conn watched (Some taking.Spent) = Nobody
-owed_by_look conn watched None = Nobody
+owed_by_look conn watched _ = Nobody
 
 -- A batch was cut: those who wait for room.
 abbrev pub owed_by_cut : Option CutOutcome → Whom
 owed_by_cut (Some (cutting.Batch cut)) = Room
-owed_by_cut (Some (cutting.Stopped all)) = Nobody
-owed_by_cut (Some (cutting.Strange uncut)) = Nobody
-owed_by_cut None = Nobody
+owed_by_cut _ = Nobody

@@ -67,13 +67,7 @@ Ends f stopped conn None = (is_connected f conn ≡ true) × (stopped ≡ false)
 abbrev pub LooksInto : FrontState → Bool → ℕ → Option Taking → FrontState → Type 0
 LooksInto f stopped conn (Some (taking.Mail mail more)) g =
     FrontStep f (event.TakeMail conn (Some mail)) [] g × (more ≡ has_mail g conn)
-LooksInto f stopped conn (Some taking.Gone) g =
-    FrontStep f (event.TakeMail conn None) [] g × Ends g stopped conn (Some taking.Gone)
-LooksInto f stopped conn (Some taking.Stopped) g =
-    FrontStep f (event.TakeMail conn None) [] g × Ends g stopped conn (Some taking.Stopped)
-LooksInto f stopped conn (Some taking.Spent) g =
-    FrontStep f (event.TakeMail conn None) [] g × Ends g stopped conn (Some taking.Spent)
-LooksInto f stopped conn None g = FrontStep f (event.TakeMail conn None) [] g × Ends g stopped conn None
+LooksInto f stopped conn taken g = FrontStep f (event.TakeMail conn None) [] g × Ends g stopped conn taken
 
 -- the event of this hold was such a look
 abbrev pub TakesMail : SharedState → ℕ → Option Taking → SharedState → Type 0
@@ -110,5 +104,4 @@ Cuts s cutting t = HandsOut s.front s.stopped cutting t.front × MakesEvent s t
 -- this history has the cut of the batch, if one was cut, after as many others as its count says
 abbrev pub IsCutIn : CutOutcome → List Act → Type 0
 IsCutIn (cutting.Batch cut) acts = WasCut acts cut.count cut.batch
-IsCutIn (cutting.Stopped all) acts = Unit {0}
-IsCutIn (cutting.Strange uncut) acts = Unit {0}
+IsCutIn _ acts = Unit {0}

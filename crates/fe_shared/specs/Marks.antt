@@ -84,8 +84,7 @@ cut_entries posted out = entries_in posted ++ entries_in (out_batches out)
 -- entry finishes, was called in that history, and its session was not closed since.
 pub record IsMarked (f : FrontState) (count : ℕ) (acts : List Act) : Type 0 where
   pub begun : ServerState
-  pub past : List Act
-  pub begins : acts ≡ Began begun ∷ past
+  pub begins : IsPrefix (Began begun ∷ []) acts
   pub is_legal : IsLegal acts
   pub posted : List Batch
   pub out : Option Batch
@@ -117,13 +116,9 @@ pub record SharedState : Type 0 where
 abbrev pub MayBeIssued : ℕ → Taking → List Act → Type 0
 MayBeIssued conn (taking.Mail mail more) acts =
     IfSome (receipt_of conn mail) (λ r. MayBeAppended acts (Issued r))
-MayBeIssued conn taking.Gone acts = Unit {0}
-MayBeIssued conn taking.Stopped acts = Unit {0}
-MayBeIssued conn taking.Spent acts = Unit {0}
+MayBeIssued conn _ acts = Unit {0}
 
 -- what was found in the box of a connection was issued to it, if it is an answer
 abbrev pub TakingIssued : ℕ → Taking → List Act → Type 0
 TakingIssued conn (taking.Mail mail more) acts = WasIssued conn mail acts
-TakingIssued conn taking.Gone acts = Unit {0}
-TakingIssued conn taking.Stopped acts = Unit {0}
-TakingIssued conn taking.Spent acts = Unit {0}
+TakingIssued conn _ acts = Unit {0}

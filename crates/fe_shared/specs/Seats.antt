@@ -5,8 +5,7 @@ use Rattle.std.specs.Prelude.{[], ◌∷◌, ◌++◌, length}
 use Rattle.fe_state.specs.declared.batch.Batch.{Batch}
 use Rattle.fe_mail.specs.Books.{Books}
 use Rattle.fe_wire.specs.declared.client_message.ClientMessage.{ClientMessage}
-use Rattle.fe_wire.specs.declared.client_message.ClientMessage.TheVariants.{Attach, Call, Cancel, Settle, Bye}
-use Rattle.fe_wire.specs.declared.client_message.ClientMessage.TheVariants.{Report}
+use Rattle.fe_wire.specs.declared.client_message.ClientMessage.TheVariants.{Call}
 use Rattle.fe_mail.specs.declared.mail.Mail.{Mail}
 use Rattle.fe_shared.specs.declared.last_answer.LastAnswer.{LastAnswer}
 use Rattle.fe_shared.specs.declared.last_answer.LastAnswer.TheVariants.{Served, Gone, Stopped, Spent}
@@ -103,12 +102,8 @@ pub record IsOpen (b : Books) : Type 0 where
 
 -- how many calls a message is
 abbrev pub calls_in : ClientMessage → ℕ
-calls_in (Attach session) = 0
 calls_in (Call number request) = 1
-calls_in (Cancel number) = 0
-calls_in (Settle floor) = 0
-calls_in Bye = 0
-calls_in Report = 0
+calls_in _ = 0
 
 -- a message of a read side was taken; after it, this is the place after all entries
 abbrev pub message_taken : CallSeatState → ClientMessage → ℕ → CallSeatState
@@ -122,9 +117,7 @@ message_taken s m place = record s {
 -- the seat of a read side after this answer to its message, at this place
 abbrev pub message_answered : CallSeatState → ClientMessage → ℕ → LastAnswer → CallSeatState
 message_answered s m place Served = message_taken s m place
-message_answered s m place Gone = record s { last_answer = Gone }
-message_answered s m place Stopped = record s { last_answer = Stopped }
-message_answered s m place Spent = record s { last_answer = Spent }
+message_answered s m place answer = record s { last_answer = answer }
 
 -- a mail was taken for a write side; `more` says whether more are in its box
 abbrev pub mail_taken : MailSeatState → Mail → Bool → MailSeatState

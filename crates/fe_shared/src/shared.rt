@@ -53,6 +53,7 @@ pub const PARTS: u64 = CONNECTIONS + 1;
 const MOST_COUNTED: u64 = (1 << 63) - 8192;
 
 /// The front and its ledgers, which agree with its books.
+#[derive(Drop)]
 pub struct Shared<C: Tally, M: Tally> {
     front: Front,
     calls: Book<C>,
@@ -79,33 +80,6 @@ pub struct Shared<C: Tally, M: Tally> {
         × (C.all ≡ most_connections + 1) },
     ghost mail_parts: { (spare_mails.parts + connections_made ≡ M.all) × (spare_mails.amount ≡ 0)
         × (M.all ≡ most_connections + 1) },
-}
-
-impl<C: Tally, M: Tally> Drop for Shared<C, M> {
-    fn drop(self) {
-        let Shared {
-            front,
-            calls,
-            mails,
-            spare_calls,
-            spare_mails,
-            history,
-            posted: _,
-            connections_made: _,
-            watchers,
-            paces,
-            stopped: _,
-            used: _,
-        } = self;
-        drop(front);
-        drop(calls);
-        drop(mails);
-        drop(spare_calls);
-        drop(spare_mails);
-        drop(history);
-        drop(watchers);
-        drop(paces);
-    }
 }
 
 impl<C: Tally, M: Tally> Model for Shared<C, M> {

@@ -1,5 +1,7 @@
-use Rattle.std.proofs.Common.{sym, ◌∙◌, ap}
-use Rattle.fe_history.proofs.Moves.{issues_moves}
+use Rattle.std.proofs.Common.{sym, ◌∙◌, ap, refl}
+use Rattle.fe_history.specs.declared.act.Act.TheVariants.{Issued}
+use Rattle.fe_history.proofs.Acts.{issued_may}
+use Rattle.fe_history.proofs.Moves.{adds_moves}
 use Rattle.fe_history.proofs.history.History.issue.Goals as goal
 
 pub load-requires : goal.load-requires
@@ -9,5 +11,5 @@ load-requires g c =
       ap (λ w. w.tracked) h,
       c.self.invariant.0 ∙ sym (ap (λ w. w.book) h),
       offer.0,
-      rw (ap (λ w. w.key) h, offer.1, offer.3) (issues_moves c.self.inside.seen.log c.args.receipt (rw c.self.view_is c.requires)),
+      rw (ap (λ w. w.key) h, offer.1, offer.3) (adds_moves c.self.inside.seen.log (Issued c.args.receipt) refl refl (λ log legal pre. issued_may c.self.inside.seen.log log c.args.receipt pre (rw c.self.view_is c.requires))),
     )
