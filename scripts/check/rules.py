@@ -15,6 +15,22 @@ TYPE = re.compile(r"^\s*(?:pub(?:\([a-z]+\))? )?(?:struct|enum|trait) (\w+)", re
 # wants std's error, and the one call of the system whose error is a number.
 MADE_FROM = re.compile(r"\b(?:AllocError|AllocFailed|fmt::Error|ErrorKind::OutOfMemory|from_raw_os_error)\b")
 MAKERS = ("crates/fe_memory/", "crates/fe_options/", "crates/femem/", "crates/fe_disk/src/system_file.rt")
+# The calls for files that fe_store makes, in their order.
+NAMED = re.compile(r"(?:\bfs::|\bFile::|\bOpenOptions::|\bFileDisk(?:::<\w+>)?::|\bF::|\b(?:add|remove)_name|\brenamed)(?:\w*\([^<>{]*?\))")
+NAMES = [
+    "FileDisk::at(self.rt,self.path,DEVICE_BYTES)",
+    "FileDisk::at(self.rt,new,size)",
+    "FileDisk::read_only(self.rt,name,DEVICE_BYTES)",
+    "fs::symlink_metadata(self.rt,name)",
+    "FileDisk::create(self.rt,new,DEVICE_BYTES)",
+    "renamed(self.rt,new,self.path)",
+    "renamed(self.rt,new,kept)",
+    "remove_name(self.rt,new)",
+    "remove_name(self.rt,new)",
+    "add_name(rt,new,name)",
+    "remove_name(rt,new)",
+    "fs::metadata(rt,path)",
+]
 # How wide a line may be, in columns; and what can't be broken: an attribute, and a line of a text in bytes.
 WIDTH = 110
 WHOLE = re.compile(r"\s*(#\[|\\0)")
@@ -60,6 +76,19 @@ def memory(_place):
         if not path.startswith(MAKERS):
             wrong += [f"{path}:{text[: it.start()].count(chr(10)) + 1}: {it[0]}" for it in MADE_FROM.finditer(text)]
     return told(wrong, count, 200, "uses of OutOfMemory")
+
+
+def names(_place):
+    """of fe_store only store_path.rt calls the system for files, with the names that its clauses require"""
+    count, wrong = 0, []
+    for path, text in sources():
+        if not path.startswith("crates/fe_store/src/"):
+            continue
+        made = [re.sub(r"\s+", "", it) for it in NAMED.findall(text)]
+        count += len(made)
+        if made != (NAMES if path.endswith("/store_path.rt") else []):
+            wrong.append(f"{path}: {made}")
+    return told(wrong, count, len(NAMES), "calls")
 
 
 def widths(_place):

@@ -154,12 +154,20 @@ pub record TalksUntil {S : Type 0} (leads : S → List Event → S → Type 0) (
   pub breaks : BreaksOff end because (lines + 1) (length (received_in so)) left part
   pub happened : leads before (so ++ part) after
 
--- what is known if the connection is a socket: what is left of the input, and what is written
-abbrev pub over_socket : Option (List ℕ) → Option (List ℕ) → Known
-over_socket left written = known left None None written
+-- A connection was made to a server, and this is so of it as it was made and as it is now.
+pub record WithServer {C : Type 0} (is_to : C → Type 0) (P : C → C → Type 0) : Type 0 where
+  pub made : C
+  pub found : is_to made
+  pub now : C
+  pub holds : P made now
 
--- There is no server at the socket, or a conversation with it breaks off. A socket may be over at any time.
-pub data CallsUntil (leads : Known → List Event → Known → Type 0) (end : CallFault) (because : Cause → Type 0)
-    (before after : Known) : Type 0 where
-  Unconnected : end ≡ fault.Socket → leads before [] after → CallsUntil leads end because before after
-  BrokeOff : TalksUntil leads end because before after → CallsUntil leads end because before after
+-- what is known without a connection: what is left of the input, and what is written
+abbrev pub unconnected : Option (List ℕ) → Option (List ℕ) → Known
+unconnected left written = known left None None written
+
+-- There was no server at the socket, and nothing happened; or a conversation with it breaks off.
+pub data CallsUntil {C : Type 0} (is_refused : Type 0) (is_to : C → Type 0) (breaks : C → C → Type 0)
+    (leads : Known → List Event → Known → Type 0) (end : CallFault) (before after : Known) : Type 0 where
+  Refused : end ≡ fault.Socket → is_refused → leads before [] after
+      → CallsUntil is_refused is_to breaks leads end before after
+  BrokeOff : WithServer is_to breaks → CallsUntil is_refused is_to breaks leads end before after

@@ -1,8 +1,9 @@
 -- What the events of a conversation, one run of the client, do to its input, its connection and its output.
 -- The bytes of a stream are known if a contract can name them; those of a terminal or a socket are not
 -- (`None`).
-use Rattle.std.specs.Prelude.{◌≡◌, ◌⊎◌, ◌≤◌, ℕ, List, [], Option, None, Some, IsSome, ⊤, ◌∷◌, ◌++◌, IfSome}
-use Rattle.fe_streams.specs.declared.StreamFailed.{StreamFailed}
+use Rattle.std.specs.Prelude.{◌≡◌, ◌⊎◌, ◌≤◌, ℕ, List, [], Option, None, Some, ⊤, ◌∷◌, ◌++◌, IfSome}
+use Rattle.fe_client.specs.declared.lost.Lost.{Lost}
+use Rattle.fe_client.specs.declared.lost.Lost.TheVariants as lost
 use Rattle.std.proofs.Common.{sym, subst, inl, inr, ◌∙◌}
 use Rattle.std.specs.Io.KnownBytes.{Appends, Consumes, IsAtEnd}
 use Rattle.std.proofs.KnownBytes.{Appends-trans, Appends-nil, Consumes-trans, Consumes-nil}
@@ -10,11 +11,15 @@ use Rattle.std.proofs.lemmas.List.Concat.{flat_map-append}
 use Rattle.fe_client.specs.Events.{Event, read_bytes, sent_byte, received_byte, written_byte, read_in}
 use Rattle.fe_client.specs.Events.{sent_in, received_in, written_in}
 
--- A call of a stream failed, or all that it had is read. If its bytes are not known, either may be so at any
--- time.
-abbrev pub IsOver : Option StreamFailed → Option (List ℕ) → Type 0
-IsOver failure None = ⊤
-IsOver failure (Some left) = IsSome failure ⊎ (left ≡ [])
+-- If the stream is over because it has ended, all that it had is read.
+abbrev pub EndsIfEnded : Lost → Option (List ℕ) → Type 0
+EndsIfEnded (lost.Failed failure) left = Unit {0}
+EndsIfEnded (lost.Ended ended) left = IsAtEnd left
+
+-- A call of a stream failed, or the stream has ended, and all that it had is read.
+abbrev pub IsOver : Option Lost → Option (List ℕ) → Type 0
+IsOver None left = ⊥
+IsOver (Some why) left = EndsIfEnded why left
 
 -- what the input has left, and what was sent, received and written, each if it is known
 pub record Known : Type 0 where

@@ -1,10 +1,10 @@
-//! A connection to a server over a reader and a writer; that of `femem call` is over a Unix socket
-//! (`docs/commands.md`, "Commands").
+//! A connection to a server over a reader and a writer (`docs/commands.md`, "Commands").
 
 ghost use Rattle.std.specs.Prelude.{◌≡◌};
 
 use crate::connection::{Broken, Connection};
-use fe_streams::{Incoming, StreamFailed, write_some};
+use crate::lost::{Lost, receive_some};
+use fe_streams::{Incoming, write_some};
 use std::io::{Read, Write};
 
 /// A connection that receives from a reader and sends to a writer. Over a socket, each of them is a reference
@@ -13,7 +13,7 @@ use std::io::{Read, Write};
 pub struct StreamConnection<R: Read, W: Write> {
     incoming: Incoming<R>,
     writer: W,
-    failure: Option<StreamFailed>,
+    lost: Option<Lost>,
 }
 
 impl<R: Read, W: Write> StreamConnection<R, W> {
@@ -26,7 +26,7 @@ impl<R: Read, W: Write> StreamConnection<R, W> {
         StreamConnection {
             incoming: Incoming::new(reader),
             writer,
-            failure: None,
+            lost: None,
         }
     }
 }
@@ -39,28 +39,26 @@ impl<R: Read, W: Write> Connection for StreamConnection<R, W> {
 
     ghost received = { λ c. bytes_read (R.remaining c.incoming.began.value) (R.remaining c.incoming.reader) };
 
-    ghost is_over = { λ c. IsOver c.failure (R.remaining c.incoming.reader) };
+    ghost is_over = { λ c. IsOver c.lost (R.remaining c.incoming.reader) };
 
-    #[tactic(auto, using(crate::proofs::Over::over_failed))]
     fn send(&mut self, bytes: &[u8]) -> Result<usize, Broken> {
         match write_some(&mut self.writer, bytes) {
             Ok(count) => Ok(count),
             Err(failure) => {
-                self.failure = Some(failure);
+                self.lost = Some(Lost::Failed(failure));
                 Err(Broken)
-            },
+            }
         }
     }
 
-    #[tactic(auto, using(crate::proofs::Over::over_failed, crate::proofs::Over::over_ended))]
+    #[tactic(auto, using(crate::proofs::Over::over_ended))]
     fn receive(&mut self, buffer: &mut [u8]) -> Result<usize, Broken> {
-        match self.incoming.read_some(buffer) {
-            Ok(0) => Err(Broken),
+        match receive_some(&mut self.incoming, buffer) {
             Ok(count) => Ok(count),
-            Err(failure) => {
-                self.failure = Some(failure);
+            Err(why) => {
+                self.lost = Some(why);
                 Err(Broken)
-            },
+            }
         }
     }
 }

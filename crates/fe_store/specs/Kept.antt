@@ -1,10 +1,11 @@
 -- Where the bytes are kept that a store had before it was formatted (`docs/store.md`, "The file").
-use Rattle.std.specs.Prelude.{◌≡◌, ◌⊎◌, ◌++◌, ℕ, List, [], codes}
+use Rattle.std.specs.Prelude.{◌≡◌, ◌⊎◌, ℕ, List, []}
 use Rattle.fe_disk.specs.Disk.{LeavesJust}
 use Rattle.fe_disk.specs.declared.disk.Disk.{Ghosts}
 use Rattle.fe_disk.specs.declared.file_disk.FileDisk.{FileDisk}
 use Rattle.fe_state.specs.State.{ServerState}
 use Rattle.fe_keeper.specs.Stands.{StandsFor}
+use Rattle.fe_store.specs.Names.{kept_name}
 use Rattle.fe_store.specs.Opening.{FoundThere}
 use Rattle.fe_store.specs.Spare.{AreSpare}
 
@@ -13,10 +14,6 @@ pub record IsCopied {F : Type 0} (model : Ghosts (FileDisk F)) (bytes : List ℕ
   pub disk : FileDisk F
   pub has : model.honest disk → model.seen disk ≡ bytes
   pub leaves : model.honest disk → LeavesJust bytes (model.may_leave disk)
-
--- the name of the file that keeps the bytes
-abbrev pub kept_name : List ℕ → List ℕ
-kept_name path = path ++ codes ".before-format"
 
 -- The bytes of a store at this path need not be kept; or a file was found that keeps them, or was made and
 -- has them.

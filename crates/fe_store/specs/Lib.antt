@@ -1,4 +1,5 @@
 pub mod Kept
+pub mod Names
 pub mod Opening
 pub mod Spare
 pub mod within

@@ -6,8 +6,10 @@ mod beside;
 mod fault;
 mod file;
 mod fresh;
+mod new_file;
 mod opening;
+mod store_path;
 
 pub use fault::OpenFault;
-pub use file::{disk_to_read, open_store};
 pub use opening::{open_existing, open_on};
+pub use store_path::{disk_to_read, open_store};

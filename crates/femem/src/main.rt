@@ -20,7 +20,7 @@ mod fault;
 use crate::fault::Fault;
 use clap::Error;
 use clap::error::ErrorKind;
-use fe_client::call;
+use fe_client::{SocketConnection, call};
 use fe_disk::{Disk, FileDisk, MemoryDisk, StoreFile, SystemFile};
 use fe_front::Books;
 use fe_hall::Open;
@@ -93,7 +93,7 @@ fn start<R: Runtime + Files<File = File> + Net + Threads + Wait + Sync + AllocGl
         Invocation::Call { socket } => {
             let mut reader = CountedReader::new(rt.reader());
             let mut writer = CountedWriter::new(io::writer(rt));
-            call(rt, rt.alloc(), socket, &mut reader, &mut writer)?;
+            call::<SocketConnection, R, _, _>(rt, rt.alloc(), socket, &mut reader, &mut writer)?;
         }
     }
     Ok(())

@@ -4,7 +4,8 @@ use Rattle.fe_disk.specs.declared.disk.Disk.{Ghosts}
 use Rattle.fe_disk.specs.declared.file_disk.FileDisk.{FileDisk}
 use Rattle.fe_store.specs.Opening.{FoundThere}
 use Rattle.fe_store.specs.Spare.{AreSpare}
-use Rattle.fe_store.specs.Kept.{IsCopied, IsKept, kept_name}
+use Rattle.fe_store.specs.Kept.{IsCopied, IsKept}
+use Rattle.fe_store.specs.Names.{kept_name}
 use Rattle.fe_store.proofs.beside.keep.Goals as goal
 
 -- the file that keeps these bytes was found
@@ -20,9 +21,9 @@ copied model is_at path seen bytes same is = subst (λ (l : List ℕ). IsKept mo
 pub returns-in-Ok-clause-kept : goal.returns-in-Ok-clause-kept
 returns-in-Ok-clause-kept g c = λ honest.
     on_ok_weaker c.compare.result
-    (there _ g.F.StoreFile.is_at c.args.path.now _ _ _ (c.as_str-in-Ok.ensures.value ∙ c.in_ok-kept.ensures) (c.as_slice-in-Ok.ensures.value ∙ c.in_ok-bytes.ensures.bytes honest))
+    (there _ g.F.StoreFile.is_at c.args.place.now.path.now _ _ _ (c.as_str-in-Ok.ensures.value ∙ c.in_ok-kept.ensures) (c.as_slice-in-Ok.ensures.value ∙ c.in_ok-bytes.ensures.bytes honest))
     c.compare.ensures
 
 pub returns-in-Err-clause-kept : goal.returns-in-Err-clause-kept
 returns-in-Err-clause-kept g c = λ honest.
-    on_ok_weaker c.copy.result (copied _ g.F.StoreFile.is_at c.args.path.now _ _ (c.as_slice-in-Err.ensures.value ∙ c.in_ok-bytes.ensures.bytes honest)) c.copy.ensures
+    on_ok_weaker c.copy.result (copied _ g.F.StoreFile.is_at c.args.place.now.path.now _ _ (c.as_slice-in-Err.ensures.value ∙ c.in_ok-bytes.ensures.bytes honest)) c.copy.ensures

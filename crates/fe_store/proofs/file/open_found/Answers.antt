@@ -30,7 +30,7 @@ pub returns-in-Ok-open_on-clause-kept : goal.returns-in-Ok-open_on-clause-kept
 returns-in-Ok-open_on-clause-kept g c = λ honest.
     let one = c.in-Err-Unformatted-default.ensures in
     let seen_then = (one.reads honest (λ asks. let no : false ≡ true = asks.1 in absurd cc)).same in
-    inr (as_found _ g.F.StoreFile.is_at c.args.path.now _ _ seen_then (c.in_ok-keep-in-Err-Unformatted-default.ensures.kept (one.ends.honesty.1 honest)))
+    inr (as_found _ g.F.StoreFile.is_at c.args.place.now.path.now _ _ seen_then (c.in_ok-keep-in-Err-Unformatted-default.ensures.kept (one.ends.honesty.1 honest)))
 
 -- what was found unformatted is what is formatted
 pub returns-in-Ok-open_on-clause-opened : goal.returns-in-Ok-open_on-clause-opened

@@ -7,7 +7,7 @@ use Rattle.fe_store.specs.declared.fault.OpenFault.{OpenFault}
 use Rattle.fe_store.specs.declared.fault.OpenFault.TheVariants as fault
 use Rattle.fe_store.specs.Kept.{LosesNone}
 use Rattle.fe_store.specs.Opening.{FoundThere, IsOpenedAs, OpensFile, TellsFile, TellsImage}
-use Rattle.fe_store.proofs.file.open_store.Goals as goal
+use Rattle.fe_store.proofs.file.open_at.Goals as goal
 
 -- a keeper that was opened over the disk that was found
 opens : {F : Type 0} (model : Ghosts (FileDisk F)) (is_at : F → Type 0) (format : Bool) (disk : FileDisk F) (result : Result (KeeperState (FileDisk F)) OpenFault)
@@ -33,7 +33,7 @@ keeps model is_at path disk (Ok keeper) found holds = record { disk = disk; foun
 keeps model is_at path disk (Err why) found holds = tt
 
 pub returns-clause-kept : goal.returns-clause-kept
-returns-clause-kept g c = keeps _ g.F.StoreFile.is_at c.args.path.now c.in_ok-disk.disk c.open_found.result c.in_ok-disk.ensures.found c.open_found.ensures.kept
+returns-clause-kept g c = keeps _ g.F.StoreFile.is_at c.args.place.now.path.now c.in_ok-disk.disk c.open_found.result c.in_ok-disk.ensures.found c.open_found.ensures.kept
 
 pub returns-clause-opened : goal.returns-clause-opened
 returns-clause-opened g c = opens _ _ _ c.in_ok-disk.disk c.open_found.result c.in_ok-disk.ensures.found c.open_found.ensures.opened
