@@ -8,7 +8,7 @@ use Rattle.fe_keeper.specs.Stands.{EachStandsFor}
 use Rattle.fe_hall.proofs.Committed.{kept_noted, rests_itself, still_itself}
 use Rattle.fe_history.specs.declared.act.Act.TheVariants.{Began}
 use Rattle.fe_hall.specs.declared.commit_end.CommitEnd.{CommitEnd}
-use Rattle.fe_hall.specs.declared.commit_end.CommitEnd.TheVariants.{Stopped, Strange}
+use Rattle.fe_hall.specs.declared.commit_end.CommitEnd.TheVariants.{Stopped}
 use Rattle.fe_server.specs.declared.served.Served.{Served}
 use Rattle.fe_server.specs.declared.stop_fault.StopFault.{StopFault}
 use Rattle.fe_server.specs.declared.stop_fault.StopFault.TheVariants as fault
