@@ -19,6 +19,7 @@ from test_unspoilt import interrupted
 import femem
 from femem import Client, requests
 from femem.aio import AsyncClient
+from femem._attachment import FIRST_PROBE
 from femem.patterns import Counter, Lock
 
 ROOT = pathlib.Path(paths.__file__).resolve().parents[1]
@@ -155,7 +156,13 @@ class Spoilt(WithFolder):
         server = self.server()
         heard = []
         take = server.model.take
-        server.model.take = lambda conn, message: (heard.append(message[0:1] + message[2:]), take(conn, message))
+
+        def takes(conn, message):
+            if message[0] != "cancel" or message[1] < FIRST_PROBE:  # (a probe only asks whether the server is there)
+                heard.append(message[0:1] + message[2:])
+            take(conn, message)
+
+        server.model.take = takes
 
         async def main():
             async with AsyncClient(self.path, 7, sessions=34) as client:
